@@ -1,0 +1,3 @@
+-- Laws of the rules.
+pub mod RescalingLaws
+pub mod LimiterLaws

@@ -1,0 +1,149 @@
+-- Document 01, "Calls on a field" and "Who meets which refusal": what each call answers, and what it leaves in its buffers.
+use mathlib.Core.Bool.{Bool, true, false, _&&_, cond}
+use mathlib.Core.List.{List, [], _∷_, _++_}
+use Prim.Native.Nat.{ℕ, _+_, _*_, _-_}
+use lib.Dec.{leb, ltb}
+use lib.IntN.{ℤ, pos, natAbs}
+use lib.ListN.{length, getD, set, replicate}
+use Rattle.whole.specs.Table.{table, blocks}
+use Rattle.rules.specs.declared.Shape.{Shape}
+use Rattle.rules.specs.declared.Face.{Face}
+use Rattle.rules.specs.Answers.{Answer, accepted, refused, Check, check, answer, after}
+use Rattle.rules.specs.Field.{Kind, admitted, elements, faces, workLength, element, onGrid, elementLength, fieldLength, overwrite, part, withPart, cell, mass, total, limit, all, sound}
+use Rattle.rules.specs.Limiter.{closed, closedUnlevelled}
+use Rattle.rules.specs.Grid.{face}
+use Rattle.rules.specs.Step.{Stepped, tracerStep}
+
+-- "−1024 to 1024"
+abbrev pub windInRange : ℤ → Bool
+windInRange c = leb (natAbs c) 1024
+
+-- the stored wind of face f
+abbrev pub windAt : List ℤ → ℕ → ℤ
+windAt w f = getD w f (pos 0)
+
+-- ---- calls on a tracer
+-- An operation on one tracer. A step also takes what it is lent beside the field (A).
+pub data Operation (A : Type 0) : Type 0 where
+  -- the nodal numbers of all elements
+  load : List ℕ → Operation A
+  -- element (i, j) and the amount q
+  emission : ℕ → ℕ → ℕ → Operation A
+  withdrawal : ℕ → ℕ → ℕ → Operation A
+  step : A → Operation A
+
+-- what a step is lent beside the field: the wind, and how long report and work are
+pub record Lent : Type 0 where
+  pub wind : List ℤ
+  pub reportLength : ℕ
+  pub workLength : ℕ
+
+-- what a call on a tracer answers, with the report where it is a step, and the field after it
+pub record Called : Type 0 where
+  pub reply : Answer (List ℤ)
+  pub field : List ℕ
+
+module _ (κ : Kind) (g : Shape) where
+  -- "Load: nine u32 per element for one smoke, elements and nodes in field order; every element is replaced and ρ becomes 0"
+  unfoldable pub loadedValue : List ℕ → ℕ → ℕ → ℕ
+  loadedValue numbers e k = getD numbers (e * κ .nodes + k) 0
+
+  unfoldable pub loaded : List ℕ → List ℕ
+  unfolding loadedValue table blocks
+  loaded numbers = blocks (elements g) (λ e. table (κ .nodes) (loadedValue numbers e) ++ (0 ∷ []))
+
+  -- a part with the numbers of element e replaced
+  unfoldable pub withElement : ℕ → List ℕ → List ℕ → List ℕ
+  unfolding overwrite elementLength
+  withElement e numbers p = overwrite (e * elementLength κ) numbers p
+
+  -- a tracer's part, and the report, after an accepted operation
+  unfoldable pub done : Operation Lent → List ℕ → Stepped
+  unfolding loaded withElement closed closedUnlevelled mass cell tracerStep
+  done (load numbers) p = record { part = loaded numbers; report = [] }
+  -- "closing with ψ = φ, T = M + q"
+  done (emission i j q) p =
+      let e = element g i j in
+      record { part = withElement e (closed κ (λ k. pos (cell κ p e k)) (mass κ p e + q)) p; report = [] }
+  -- "T = M − q, closing without levelling"
+  done (withdrawal i j q) p =
+      let e = element g i j in
+      record { part = withElement e (closedUnlevelled κ (λ k. pos (cell κ p e k)) (mass κ p e - q)) p; report = [] }
+  done (step l) p = tracerStep κ g (windAt (l .wind)) p
+
+  -- 4, "a lent slice is shorter than needed", of what an operation is lent beside the field
+  unfoldable pub lentEnough : Operation Lent → Bool
+  lentEnough (load numbers) = leb (elements g * κ .nodes) (length numbers)
+  lentEnough (emission i j q) = true
+  lentEnough (withdrawal i j q) = true
+  lentEnough (step l) = leb (faces g) (length (l .wind)) && (leb (faces g) (l .reportLength) && leb (workLength g) (l .workLength))
+
+  -- 6, of the named tracer: one that is not there "has no numbers to search, so it passes here and meets 7"
+  unfoldable pub soundIfThere : Bool → List ℕ → Bool
+  unfolding sound
+  soundIfThere there p = cond there (sound κ g p) true
+
+  -- 5 to 10, for the part p of a tracer that is there or not
+  unfoldable pub checks : Operation Lent → Bool → List ℕ → List Check
+  unfolding loaded total soundIfThere mass
+  checks (load numbers) there p = check 7 there ∷ check 9 (leb (total κ g (loaded numbers)) limit) ∷ []
+  checks (emission i j q) there p =
+      check 6 (soundIfThere there p) ∷ check 7 there ∷ check 8 (onGrid g i j) ∷ check 9 (leb (total κ g p + q) limit) ∷ []
+  checks (withdrawal i j q) there p =
+      check 6 (soundIfThere there p) ∷ check 7 there ∷ check 8 (onGrid g i j) ∷ check 10 (leb q (mass κ p (element g i j))) ∷ []
+  checks (step l) there p = check 5 (all (faces g) (λ f. windInRange (windAt (l .wind) f))) ∷ check 6 (soundIfThere there p) ∷ check 7 there ∷ []
+
+  -- a call on tracer s
+  unfoldable pub call : ℕ → Operation Lent → List ℕ → Called
+  unfolding answer after admitted fieldLength lentEnough checks done part withPart
+  call s op field =
+      let p = part κ g s field in
+      let d = done op p in
+      let a = answer (check 2 (admitted g) ∷ check 4 (leb (fieldLength κ g) (length field) && lentEnough op) ∷ checks op (ltb s (g .tracers)) p) (d .report) in
+      record { reply = a; field = after a (withPart κ g s (d .part) field) field }
+
+  -- "Readings: an element's M; a smoke's total."
+  unfoldable pub massReading : ℕ → ℕ → ℕ → List ℕ → Answer ℕ
+  unfolding answer admitted fieldLength soundIfThere part mass
+  massReading s i j field =
+      let there = ltb s (g .tracers) in
+      let p = part κ g s field in
+      answer (check 2 (admitted g) ∷ check 4 (leb (fieldLength κ g) (length field)) ∷ check 6 (soundIfThere there p) ∷ check 7 there ∷ check 8 (onGrid g i j) ∷ [])
+        (mass κ p (element g i j))
+
+  unfoldable pub totalReading : ℕ → List ℕ → Answer ℕ
+  unfolding answer admitted fieldLength soundIfThere part total
+  totalReading s field =
+      let there = ltb s (g .tracers) in
+      let p = part κ g s field in
+      answer (check 2 (admitted g) ∷ check 4 (leb (fieldLength κ g) (length field)) ∷ check 6 (soundIfThere there p) ∷ check 7 there ∷ []) (total κ g p)
+
+  -- "Fresh: writes zeros to field and wind."
+  unfoldable pub freshReply : List ℕ → List ℤ → Answer (Unit {0})
+  unfolding answer admitted fieldLength
+  freshReply field wind = answer (check 2 (admitted g) ∷ check 4 (leb (fieldLength κ g) (length field) && leb (faces g) (length wind)) ∷ []) tt
+
+  unfoldable pub zeroField : List ℕ → List ℕ
+  unfolding overwrite fieldLength
+  zeroField field = overwrite 0 (replicate (fieldLength κ g) 0) field
+
+-- the report buffer after a call: the report written over its front, "Surplus is left alone"
+unfoldable pub reportAfter : Answer (List ℤ) → List ℤ → List ℤ
+unfolding overwrite
+reportAfter (accepted r) old = overwrite 0 r old
+reportAfter (refused n) old = old
+
+module _ (g : Shape) where
+  unfoldable pub zeroWind : List ℤ → List ℤ
+  unfolding overwrite
+  zeroWind wind = overwrite 0 (replicate (faces g) (pos 0)) wind
+
+  -- "Wind: one face (east or north, i, j) gets a new C."
+  unfoldable pub windReply : Face → List ℤ → Answer (Unit {0})
+  unfolding answer admitted
+  windReply f wind =
+      answer (check 2 (admitted g) ∷ check 4 (leb (faces g) (length wind)) ∷ check 5 (windInRange (f .wind)) ∷ check 8 (onGrid g (f .i) (f .j)) ∷ []) tt
+
+  unfoldable pub windAfter : Face → List ℤ → List ℤ
+  unfolding windReply after
+  windAfter f wind = after (windReply f wind) (set wind (face g (f .way) (f .i) (f .j)) (f .wind)) wind

@@ -1,0 +1,8 @@
+-- Laws of whole numbers, sums and tables; bounds by search.
+pub mod Cases
+pub mod WholeLaws
+pub mod SumLaws
+pub mod TableLaws
+pub mod BoundLaws
+pub mod Sizes
+pub mod FloorLaws

@@ -1,0 +1,57 @@
+-- Laws of tables: their length, a number of theirs, and one more entry.
+use mathlib.Core.Path.{_≡_, refl, sym, ap, _∙_}
+use mathlib.Core.List.{List, [], _∷_, _++_}
+use Prim.Native.Nat.{ℕ, zero, suc, _+_, _*_, _≤_, _<_}
+use native.Mathlib.Nat.{add-zero, mul-one, suc-mul}
+use native.Mathlib.Decide.{ℕ-discrete}
+use native.Mathlib.Numerals.{add-one}
+use native.Mathlib.Omega.{arith}
+use lib.Arith.{digits-lt}
+use lib.ListN.{length, getD, length-append, List·getD-append}
+use lib.Seq.{getD-append-add}
+use Rattle.whole.specs.Table.{blocks, table}
+
+module _ {ℓ} {A : Type ℓ} where
+  pub blocks-more : (n : ℕ) (f : ℕ → List A) → blocks (n + 1) f ≡ blocks n f ++ f n
+  unfolding blocks
+  blocks-more n f = rw (add-one n)
+
+  pub table-more : (n : ℕ) (f : ℕ → A) → table (n + 1) f ≡ table n f ++ (f n ∷ [])
+  unfolding table
+  table-more n f = rw (add-one n)
+
+  -- a table is blocks of one number each
+  table-blocks : (n : ℕ) (f : ℕ → A) → table n f ≡ blocks n (λ i. f i ∷ [])
+  unfolding table blocks
+  table-blocks zero f = refl
+  table-blocks (suc n) f = ap (λ l. l ++ (f n ∷ [])) (table-blocks n f)
+
+  module _ (w : ℕ) (f : ℕ → List A) (each : (e : ℕ) → length (f e) ≡ w) where
+    pub length-blocks : (n : ℕ) → length (blocks n f) ≡ n * w
+    unfolding blocks
+    length-blocks zero = omega arith
+    length-blocks (suc n) = length-append (blocks n f) (f n) ∙ omega (arith, length-blocks n, each n, suc-mul n w)
+
+    pub getD-blocks : (n e k : ℕ) (d : A) → e < n → k < w → getD (blocks n f) (e * w + k) d ≡ getD (f e) k d
+    unfolding blocks
+    getD-blocks zero e k d he hk = let c : ⊥ = omega arith in absurd c
+    getD-blocks (suc n) e k d he hk = go (ℕ-discrete e n) (λ l. getD-blocks n e k d l hk)
+      where
+        here : getD (blocks n f ++ f n) (n * w + k) d ≡ getD (f n) k d
+        here = ap (λ x. getD (blocks n f ++ f n) (x + k) d) (sym (length-blocks n)) ∙ getD-append-add (blocks n f) (f n) k d
+        go : Dec (e ≡ n) → (e < n → getD (blocks n f) (e * w + k) d ≡ getD (f e) k d) → getD (blocks n f ++ f n) (e * w + k) d ≡ getD (f e) k d
+        go (yes q) ih = ap (λ x. getD (blocks n f ++ f n) (x * w + k) d) q ∙ here ∙ ap (λ x. getD (f x) k d) (sym q)
+        go (no ne) ih = let l : e < n = omega (arith, ne) in
+          List·getD-append (blocks n f) (f n) d (e * w + k) (omega (arith, digits-lt l hk, length-blocks n)) ∙ ih l
+
+  pub length-table : (n : ℕ) (f : ℕ → A) → length (table n f) ≡ n
+  length-table n f = ap length (table-blocks n f) ∙ length-blocks 1 (λ i. f i ∷ []) (λ e. refl) n ∙ mul-one n
+
+  pub getD-table : (n : ℕ) (f : ℕ → A) (i : ℕ) (d : A) → i < n → getD (table n f) i d ≡ f i
+  getD-table n f i d h = ap (λ l. getD l i d) (table-blocks n f) ∙ ap (λ x. getD (blocks n (λ i. f i ∷ [])) x d) (sym (add-zero (i * 1) ∙ mul-one i))
+    ∙ getD-blocks 1 (λ i. f i ∷ []) (λ e. refl) n i 0 d h (omega arith)
+
+  pub table-cong : (n : ℕ) (f g : ℕ → A) → ((i : ℕ) → i < n → f i ≡ g i) → table n f ≡ table n g
+  unfolding table
+  table-cong zero f g h = refl
+  table-cong (suc n) f g h = λ i. table-cong n f g (λ j l. h j (omega arith)) i ++ (h n (omega arith) i ∷ [])

@@ -1,0 +1,11 @@
+-- Sums over the indices 0 .. n − 1 of a function.
+use Prim.Native.Nat.{ℕ, zero, suc, _+_}
+use lib.IntN.{ℤ, pos, _+ℤ_}
+
+unfoldable pub sum : ℕ → (ℕ → ℕ) → ℕ
+sum zero f = 0
+sum (suc n) f = sum n f + f n
+
+unfoldable pub sumℤ : ℕ → (ℕ → ℤ) → ℤ
+sumℤ zero f = pos 0
+sumℤ (suc n) f = sumℤ n f +ℤ f n

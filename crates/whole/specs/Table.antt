@@ -1,0 +1,13 @@
+-- The values of a function at 0 .. n − 1, as a list.
+use mathlib.Core.List.{List, [], _∷_, _++_}
+use Prim.Native.Nat.{ℕ, zero, suc}
+
+-- the lists f 0, .., f (n − 1), one after the other
+unfoldable pub blocks {ℓ} : {A : Type ℓ} → ℕ → (ℕ → List A) → List A
+blocks zero f = []
+blocks (suc n) f = blocks n f ++ f n
+
+-- the numbers f 0, .., f (n − 1)
+unfoldable pub table {ℓ} : {A : Type ℓ} → ℕ → (ℕ → A) → List A
+table zero f = []
+table (suc n) f = table n f ++ (f n ∷ [])
