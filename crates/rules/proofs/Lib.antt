@@ -1,3 +1,10 @@
 -- Laws of the rules.
 pub mod RescalingLaws
 pub mod LimiterLaws
+pub mod GridLaws
+pub mod CorrectionLaws
+pub mod PartLaws
+pub mod LedgerLaws
+pub mod AnswerLaws
+pub mod StepLaws
+pub mod CallLaws

@@ -5,11 +5,12 @@ use Prim.Native.Nat.{ℕ, _+_, _*_, _-_}
 use lib.Dec.{leb, ltb}
 use lib.IntN.{ℤ, pos, natAbs}
 use lib.ListN.{length, getD, set, replicate}
-use Rattle.whole.specs.Table.{table, blocks}
+use Rattle.whole.specs.Sum.{all}
+use Rattle.whole.specs.Table.{table, blocks, overwrite}
 use Rattle.rules.specs.declared.Shape.{Shape}
 use Rattle.rules.specs.declared.Face.{Face}
 use Rattle.rules.specs.Answers.{Answer, accepted, refused, Check, check, answer, after}
-use Rattle.rules.specs.Field.{Kind, admitted, elements, faces, workLength, element, onGrid, elementLength, fieldLength, overwrite, part, withPart, cell, mass, total, limit, all, sound}
+use Rattle.rules.specs.Field.{Kind, admitted, elements, faces, workLength, element, onGrid, elementLength, fieldLength, part, withPart, cell, mass, total, limit, sound}
 use Rattle.rules.specs.Limiter.{closed, closedUnlevelled}
 use Rattle.rules.specs.Grid.{face}
 use Rattle.rules.specs.Step.{Stepped, tracerStep}
@@ -57,18 +58,22 @@ module _ (κ : Kind) (g : Shape) where
   unfolding overwrite elementLength
   withElement e numbers p = overwrite (e * elementLength κ) numbers p
 
+  -- the numbers of element e after an emission of q: "closing with ψ = φ, T = M + q"
+  unfoldable pub emitted : ℕ → ℕ → List ℕ → List ℕ
+  unfolding closed mass cell
+  emitted e q p = closed κ (λ k. pos (cell κ p e k)) (mass κ p e + q)
+
+  -- and after a withdrawal of q: "T = M − q, closing without levelling"
+  unfoldable pub withdrawn : ℕ → ℕ → List ℕ → List ℕ
+  unfolding closedUnlevelled mass cell
+  withdrawn e q p = closedUnlevelled κ (λ k. pos (cell κ p e k)) (mass κ p e - q)
+
   -- a tracer's part, and the report, after an accepted operation
   unfoldable pub done : Operation Lent → List ℕ → Stepped
-  unfolding loaded withElement closed closedUnlevelled mass cell tracerStep
+  unfolding loaded withElement emitted withdrawn tracerStep
   done (load numbers) p = record { part = loaded numbers; report = [] }
-  -- "closing with ψ = φ, T = M + q"
-  done (emission i j q) p =
-      let e = element g i j in
-      record { part = withElement e (closed κ (λ k. pos (cell κ p e k)) (mass κ p e + q)) p; report = [] }
-  -- "T = M − q, closing without levelling"
-  done (withdrawal i j q) p =
-      let e = element g i j in
-      record { part = withElement e (closedUnlevelled κ (λ k. pos (cell κ p e k)) (mass κ p e - q)) p; report = [] }
+  done (emission i j q) p = record { part = withElement (element g i j) (emitted (element g i j) q p) p; report = [] }
+  done (withdrawal i j q) p = record { part = withElement (element g i j) (withdrawn (element g i j) q p) p; report = [] }
   done (step l) p = tracerStep κ g (windAt (l .wind)) p
 
   -- 4, "a lent slice is shorter than needed", of what an operation is lent beside the field

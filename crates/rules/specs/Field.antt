@@ -1,12 +1,13 @@
 -- Document 01, "Field": shapes, the kind of element, where numbers stand, what an element and a tracer hold.
 -- A tracer is document 01's smoke; a tracer's part is its numbers in the field buffer.
-use mathlib.Core.Bool.{Bool, true, false, _&&_, cond}
-use mathlib.Core.List.{List, [], _∷_, _++_}
-use Prim.Native.Nat.{ℕ, zero, suc, _+_, _*_, _/_, _%_}
+use mathlib.Core.Bool.{Bool, _&&_}
+use mathlib.Core.List.{List, [], _∷_}
+use Prim.Native.Nat.{ℕ, _+_, _*_, _/_, _%_}
 use lib.Dec.{leb, ltb}
 use lib.IntN.{ℤ, pos, negsuc}
-use lib.ListN.{length, getD, take, drop}
-use Rattle.whole.specs.Sum.{sum}
+use lib.ListN.{getD, take, drop}
+use Rattle.whole.specs.Sum.{sum, all}
+use Rattle.whole.specs.Table.{overwrite}
 use Rattle.rules.specs.declared.Shape.{Shape}
 
 -- ---- shape
@@ -94,10 +95,6 @@ unfoldable pub fieldLength : Kind → Shape → ℕ
 unfolding tracerLength
 fieldLength κ g = g .tracers * tracerLength κ g
 
--- ys written over xs from place n on; the rest is left alone
-unfoldable pub overwrite : {A : Type 0} → ℕ → List A → List A → List A
-overwrite n ys xs = take n xs ++ (ys ++ drop (length ys) (drop n xs))
-
 -- a tracer's part of the field, and the field with that part replaced
 unfoldable pub part : Kind → Shape → ℕ → List ℕ → List ℕ
 unfolding tracerLength
@@ -133,11 +130,6 @@ total κ g p = sum (elements g) (mass κ p)
 
 abbrev pub limit : ℕ
 limit = 100000000
-
--- f holds at 0 .. n − 1
-unfoldable pub all : ℕ → (ℕ → Bool) → Bool
-all zero f = true
-all (suc n) f = all n f && f n
 
 -- no "remainder above 35" and no "total above 100,000,000"
 unfoldable pub sound : Kind → Shape → List ℕ → Bool

@@ -3,6 +3,7 @@ pub mod Cases
 pub mod WholeLaws
 pub mod SumLaws
 pub mod TableLaws
+pub mod OverwriteLaws
 pub mod BoundLaws
 pub mod Sizes
 pub mod FloorLaws

@@ -41,6 +41,12 @@ le-parts (pos a) (negsuc b) h = let f : ⊥ = omega arith in absurd f
 le-parts (negsuc a) (pos b) h = record { le = tt }
 le-parts (negsuc a) (negsuc b) h = record { le = le→leb b a (omega arith) }
 
+-- one of the parts is 0
+pub not-below : (z : ℤ) → negative z ≤ positive z → negative z ≡ 0
+unfolding positive negative
+not-below (pos n) h = refl
+not-below (negsuc n) h = let f : ⊥ = omega arith in absurd f
+
 -- a number that is not below 0 is its positive part
 pub pos-positive : (z : ℤ) → negative z ≡ 0 → pos (positive z) ≡ z
 unfolding positive negative

@@ -1,5 +1,6 @@
--- The values of a function at 0 .. n − 1, as a list.
+-- The values of a function at 0 .. n − 1, as a list; a list written over another.
 use mathlib.Core.List.{List, [], _∷_, _++_}
+use lib.ListN.{length, take, drop}
 use Prim.Native.Nat.{ℕ, zero, suc}
 
 -- the lists f 0, .., f (n − 1), one after the other
@@ -11,3 +12,7 @@ blocks (suc n) f = blocks n f ++ f n
 unfoldable pub table {ℓ} : {A : Type ℓ} → ℕ → (ℕ → A) → List A
 table zero f = []
 table (suc n) f = table n f ++ (f n ∷ [])
+
+-- ys written over xs from place n on; the rest is left alone
+unfoldable pub overwrite {ℓ} : {A : Type ℓ} → ℕ → List A → List A → List A
+overwrite n ys xs = take n xs ++ (ys ++ drop (length ys) (drop n xs))

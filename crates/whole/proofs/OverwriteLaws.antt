@@ -1,0 +1,73 @@
+-- A list written over another: lengths, numbers, and the parts of equal width w into which the list is divided.
+use mathlib.Core.Path.{_≡_, refl, sym, ap, _∙_}
+use mathlib.Core.List.{List, _++_}
+use mathlib.Core.Logic.{_≢_}
+use Prim.Native.Nat.{ℕ, _+_, _*_, _-_, _≤_, _<_, min}
+use native.Mathlib.Nat.{suc-mul, mul-le-mul-right}
+use native.Mathlib.Decide.{decLt}
+use native.Mathlib.Omega.{arith}
+use lib.ListN.{length, getD, take, drop, length-append, length-take, length-drop, List·getD-append}
+use lib.Seq.{length-take-le, drop-at, take-at, getD-append-add, getD-take, getD-drop, ext-getD}
+use Rattle.whole.specs.Table.{overwrite}
+
+-- part s of width w ends within parts 0 .. n − 1
+pub part-room : (w : ℕ) {s n : ℕ} → s < n → s * w + w ≤ n * w
+part-room w {s} {n} h = omega (arith, mul-le-mul-right w h, suc-mul s w)
+
+module _ {ℓ} {A : Type ℓ} (n : ℕ) (ys xs : List A) (room : n + length ys ≤ length xs) where
+  length-front : length (take n xs) ≡ n
+  length-front = length-take-le n xs (omega arith)
+
+  pub length-overwrite : length (overwrite n ys xs) ≡ length xs
+  unfolding overwrite
+  length-overwrite = simp (length-append, length-drop) (omega (arith, length-front))
+
+  pub overwrite-below : (d : A) (i : ℕ) → i < n → getD (overwrite n ys xs) i d ≡ getD xs i d
+  unfolding overwrite
+  overwrite-below d i h = List·getD-append (take n xs) (ys ++ drop (length ys) (drop n xs)) d i (omega (arith, length-front)) ∙ getD-take n xs i d h
+
+  -- the numbers from n on
+  from-n : (d : A) (j : ℕ) → getD (overwrite n ys xs) (n + j) d ≡ getD (ys ++ drop (length ys) (drop n xs)) j d
+  unfolding overwrite
+  from-n d j = ap (λ x. getD (overwrite n ys xs) (x + j) d) (sym length-front) ∙ getD-append-add (take n xs) (ys ++ drop (length ys) (drop n xs)) j d
+
+  pub overwrite-inside : (d : A) (j : ℕ) → j < length ys → getD (overwrite n ys xs) (n + j) d ≡ getD ys j d
+  overwrite-inside d j h = from-n d j ∙ List·getD-append ys (drop (length ys) (drop n xs)) d j h
+
+  pub overwrite-above : (d : A) (j : ℕ) → getD (overwrite n ys xs) (n + (length ys + j)) d ≡ getD xs (n + (length ys + j)) d
+  overwrite-above d j = from-n d (length ys + j) ∙ getD-append-add ys (drop (length ys) (drop n xs)) j d ∙ getD-drop (length ys) (drop n xs) j d ∙ getD-drop n xs (length ys + j) d
+
+-- ---- the list in parts of width w; part s is replaced
+module _ {ℓ} {A : Type ℓ} (w s : ℕ) (ys xs : List A) (width : length ys ≡ w) (room : s * w + w ≤ length xs) where
+  room-ys : s * w + length ys ≤ length xs
+  room-ys = omega arith
+
+  pub length-replaced : length (overwrite (s * w) ys xs) ≡ length xs
+  length-replaced = length-overwrite (s * w) ys xs room-ys
+
+  pub number-same : (d : A) (k : ℕ) → k < w → getD (overwrite (s * w) ys xs) (s * w + k) d ≡ getD ys k d
+  number-same d k h = overwrite-inside (s * w) ys xs room-ys d k (omega arith)
+
+  pub number-other : (d : A) (s′ k : ℕ) → s ≢ s′ → k < w → getD (overwrite (s * w) ys xs) (s′ * w + k) d ≡ getD xs (s′ * w + k) d
+  number-other d s′ k ne hk = go (decLt s′ s)
+    where
+      go : Dec (s′ < s) → getD (overwrite (s * w) ys xs) (s′ * w + k) d ≡ getD xs (s′ * w + k) d
+      go (yes l) = overwrite-below (s * w) ys xs room-ys d (s′ * w + k) (omega (arith, part-room w {s = s′} {n = s} l))
+      go (no l) =
+        let e : s′ * w + k ≡ s * w + (length ys + (s′ * w + k - (s * w + w))) = omega (arith, ne, part-room w {s = s} {n = s′} (omega (arith, ne))) in
+        ap (λ x. getD (overwrite (s * w) ys xs) x d) e ∙ overwrite-above (s * w) ys xs room-ys d (s′ * w + k - (s * w + w)) ∙ ap (λ x. getD xs x d) (sym e)
+
+  pub part-same : take w (drop (s * w) (overwrite (s * w) ys xs)) ≡ ys
+  unfolding overwrite
+  part-same = ap (take w) (drop-at (take (s * w) xs) (ys ++ drop (length ys) (drop (s * w) xs)) (s * w) (length-front (s * w) ys xs room-ys)) ∙ take-at ys (drop (length ys) (drop (s * w) xs)) w width
+
+  pub part-other : (d : A) (s′ : ℕ) → s ≢ s′ → take w (drop (s′ * w) (overwrite (s * w) ys xs)) ≡ take w (drop (s′ * w) xs)
+  part-other d s′ ne = ext-getD d (take w (drop (s′ * w) new)) (take w (drop (s′ * w) xs))
+      (length-take w (drop (s′ * w) new) ∙ ap (min w) (length-drop (s′ * w) new ∙ ap (λ x. x - s′ * w) length-replaced ∙ sym (length-drop (s′ * w) xs)) ∙ sym (length-take w (drop (s′ * w) xs)))
+      (λ i h. let k : i < w = omega (arith, length-take w (drop (s′ * w) new)) in
+        read new i k ∙ number-other d s′ i ne k ∙ sym (read xs i k))
+    where
+      new : List A
+      new = overwrite (s * w) ys xs
+      read : (l : List A) (i : ℕ) → i < w → getD (take w (drop (s′ * w) l)) i d ≡ getD l (s′ * w + i) d
+      read l i k = getD-take w (drop (s′ * w) l) i d k ∙ getD-drop (s′ * w) l i d
