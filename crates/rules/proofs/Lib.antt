@@ -8,3 +8,4 @@ pub mod LedgerLaws
 pub mod AnswerLaws
 pub mod StepLaws
 pub mod CallLaws
+pub mod FieldLaws

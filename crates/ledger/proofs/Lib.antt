@@ -1,0 +1,4 @@
+-- Demand 3, proved.
+pub mod Agreement
+pub mod Striking
+pub mod Theorem
