@@ -77,20 +77,22 @@ module _ (κ : Kind) (g : Shape) where
       -- of the named tracer: the operation's law; of any other: nothing changed
       accepted-fine : (a : Accepted κ g s lent field) → Fine new (line κ g (on s op) (accepted (done κ g lent (part κ g s field) .report)) held)
       unfolding line
-      accepted-fine a = record
-        { room = subst (λ x. fieldLength κ g ≤ x) (sym (long a)) (f .room)
-        ; good = λ t h. either (eqb s t)
+      accepted-fine a = record {
+        room = subst (λ x. fieldLength κ g ≤ x) (sym (long a)) (f .room);
+        good = λ t h. either (eqb s t)
             (λ y. subst (λ z. Good κ g (part κ g z new)) (eqb→eq s t y) (subst (Good κ g) (sym (there a)) (kept a .good)))
-            (λ y. subst (Good κ g) (sym (elsewhere a t (neqb→ne s t y))) (f .good t h))
-        ; agree = λ t h e l. either (eqb s t)
+            (λ y. subst (Good κ g) (sym (elsewhere a t (neqb→ne s t y))) (f .good t h));
+        agree = λ t h e l. either (eqb s t)
             (λ y. cond-yes (eqb s t) _ _ y ∙ subst (λ z. entry κ g op r (held z) e ≡ pos (mass κ (part κ g z new) e)) (eqb→eq s t y) (same e l))
-            (λ y. cond-no (eqb s t) _ _ y ∙ f .agree t h e l ∙ ap (λ x. pos (mass κ x e)) (sym (elsewhere a t (neqb→ne s t y)))) }
+            (λ y. cond-no (eqb s t) _ _ y ∙ f .agree t h e l ∙ ap (λ x. pos (mass κ x e)) (sym (elsewhere a t (neqb→ne s t y))));
+      }
         where
           r : Answer (List ℤ)
           r = accepted (done κ g lent (part κ g s field) .report)
+
           same : (e : ℕ) → e < elements g → entry κ g op r (held s) e ≡ pos (mass κ (part κ g s new) e)
           same e l = sym (entry-lend b w op r (held s) e) ∙ entry-cong κ g lent r (held s) (λ e. pos (mass κ (part κ g s field) e)) e (f .agree s (a .tracer) e l)
-            ∙ kept a .books e l ∙ ap (λ x. pos (mass κ x e)) (sym (there a))
+              ∙ kept a .books e l ∙ ap (λ x. pos (mass κ x e)) (sym (there a))
 
       call-fine : Fine (call κ g s lent field .field) (line κ g (on s op) (call κ g s lent field .reply) held)
       call-fine = call-ind κ g s lent field (λ a x. Fine x (line κ g (on s op) a held)) refused-fine accepted-fine
@@ -120,14 +122,14 @@ module _ (κ : Kind) (g : Shape) (hw : 0 < weightSum κ) (field : List ℕ) (win
   zero-at : (i : ℕ) → i < fieldLength κ g → getD zeros i 0 ≡ 0
   unfolding zeroField
   zero-at i h = ap (λ x. getD zeros x 0) (sym (zero-add i)) ∙ overwrite-inside 0 (replicate (fieldLength κ g) 0) field zeros-room 0 i (omega (arith, length-replicate {A = ℕ} (fieldLength κ g) 0))
-    ∙ getD-replicate (fieldLength κ g) i 0 0 h
+      ∙ getD-replicate (fieldLength κ g) i 0 0 h
 
   zero-cell : (s e k : ℕ) → s < g .tracers → e < elements g → k < elementLength κ → cell κ (part κ g s zeros) e k ≡ 0
   unfolding cell part tracerLength fieldLength
   zero-cell s e k hs he hk =
-    let at : e * elementLength κ + k < tracerLength κ g = digits-lt he hk in
-    getD-take (tracerLength κ g) (drop (s * tracerLength κ g) zeros) (e * elementLength κ + k) 0 at
-    ∙ getD-drop (s * tracerLength κ g) zeros (e * elementLength κ + k) 0 ∙ zero-at (s * tracerLength κ g + (e * elementLength κ + k)) (omega (arith, part-room (tracerLength κ g) hs))
+      let at : e * elementLength κ + k < tracerLength κ g = digits-lt he hk in
+      getD-take (tracerLength κ g) (drop (s * tracerLength κ g) zeros) (e * elementLength κ + k) 0 at
+      ∙ getD-drop (s * tracerLength κ g) zeros (e * elementLength κ + k) 0 ∙ zero-at (s * tracerLength κ g + (e * elementLength κ + k)) (omega (arith, part-room (tracerLength κ g) hs))
 
   node-lt : (k : ℕ) → k ≤ κ .nodes → k < elementLength κ
   unfolding elementLength
@@ -140,10 +142,11 @@ module _ (κ : Kind) (g : Shape) (hw : 0 < weightSum κ) (field : List ℕ) (win
 
   zero-good : (s : ℕ) → s < g .tracers → Good κ g (part κ g s zeros)
   unfolding total remainder
-  zero-good s hs = record
-    { size = part-length κ g s zeros hs (subst (λ x. fieldLength κ g ≤ x) (sym zeros-length) room)
-    ; small = λ e he. subst (λ x. x < weightSum κ) (sym (zero-cell s e (κ .nodes) hs he (node-lt (κ .nodes) (omega arith)))) hw
-    ; bounded = omega (arith, sum-zero (elements g) (mass κ (part κ g s zeros)) (λ e he. zero-mass s e hs he)) }
+  zero-good s hs = record {
+    size = part-length κ g s zeros hs (subst (λ x. fieldLength κ g ≤ x) (sym zeros-length) room);
+    small = λ e he. subst (λ x. x < weightSum κ) (sym (zero-cell s e (κ .nodes) hs he (node-lt (κ .nodes) (omega arith)))) hw;
+    bounded = omega (arith, sum-zero (elements g) (mass κ (part κ g s zeros)) (λ e he. zero-mass s e hs he));
+  }
 
   pub fresh-fine : Fine κ g (fresh κ g field wind .field) (λ s e. pos 0)
   unfolding fresh

@@ -31,11 +31,12 @@ module _ (κ : Kind) (g : Shape) (b : Buffers) (s : ℕ) where
   other : (c : Call) (x y : State) → T (not (stays s c)) → Like x y → Like (perform κ g b c x .state) y
   unfolding perform stays
   other (windCall f) x y n h = absurd n
-  other (on t op) x y n h = record
-    { room₁ = still t (lend b (x .wind) op) (x .field) (h .room₁)
-    ; room₂ = h .room₂
-    ; winds = h .winds
-    ; parts = call-other κ g t (lend b (x .wind) op) (x .field) s (neqb→ne t s n) ∙ h .parts }
+  other (on t op) x y n h = record {
+    room₁ = still t (lend b (x .wind) op) (x .field) (h .room₁);
+    room₂ = h .room₂;
+    winds = h .winds;
+    parts = call-other κ g t (lend b (x .wind) op) (x .field) s (neqb→ne t s n) ∙ h .parts;
+  }
 
   -- a call that stays, in both
   pub record Alike (p q : Performed κ g b) : Type 0 where
@@ -43,21 +44,28 @@ module _ (κ : Kind) (g : Shape) (b : Buffers) (s : ℕ) where
     pub replies : p .reply ≡ q .reply
 
   on-s : (op : Operation Lent) (x y : State) → Like x y → Alike
-    (record { reply = call κ g s op (x .field) .reply; state = record { field = call κ g s op (x .field) .field; wind = x .wind } })
-    (record { reply = call κ g s op (y .field) .reply; state = record { field = call κ g s op (y .field) .field; wind = y .wind } })
-  on-s op x y h = record
-    { replies = reply-same κ g s op (x .field) (y .field) (h .room₁) (h .room₂) (h .parts)
-    ; states = record { room₁ = still s op (x .field) (h .room₁); room₂ = still s op (y .field) (h .room₂); winds = h .winds;
-        parts = part-after-same κ g s op (x .field) (y .field) (h .room₁) (h .room₂) (h .parts) } }
+      (record { reply = call κ g s op (x .field) .reply; state = record { field = call κ g s op (x .field) .field; wind = x .wind } })
+      (record { reply = call κ g s op (y .field) .reply; state = record { field = call κ g s op (y .field) .field; wind = y .wind } })
+  on-s op x y h = record {
+    replies = reply-same κ g s op (x .field) (y .field) (h .room₁) (h .room₂) (h .parts);
+    states = record {
+      room₁ = still s op (x .field) (h .room₁);
+      room₂ = still s op (y .field) (h .room₂);
+      winds = h .winds;
+      parts = part-after-same κ g s op (x .field) (y .field) (h .room₁) (h .room₂) (h .parts);
+    };
+  }
 
   kept : (c : Call) (x y : State) → T (stays s c) → Like x y → Alike (perform κ g b c x) (perform κ g b c y)
   unfolding perform stays
-  kept (windCall f) x y t h = record { replies = ap (λ w. unreported (windReply g f w)) (h .winds);
-    states = record { room₁ = h .room₁; room₂ = h .room₂; winds = ap (windAfter g f) (h .winds); parts = h .parts } }
+  kept (windCall f) x y t h = record {
+    replies = ap (λ w. unreported (windReply g f w)) (h .winds);
+    states = record { room₁ = h .room₁; room₂ = h .room₂; winds = ap (windAfter g f) (h .winds); parts = h .parts };
+  }
   kept (on t op) x y m h = subst (λ w. Alike (perform κ g b (on t op) x) (record { reply = call κ g t (lend b w op) (y .field) .reply; state = record { field = call κ g t (lend b w op) (y .field) .field; wind = y .wind } })) (h .winds)
-    (subst (λ z. Alike
-        (record { reply = call κ g z (lend b (x .wind) op) (x .field) .reply; state = record { field = call κ g z (lend b (x .wind) op) (x .field) .field; wind = x .wind } })
-        (record { reply = call κ g z (lend b (x .wind) op) (y .field) .reply; state = record { field = call κ g z (lend b (x .wind) op) (y .field) .field; wind = y .wind } }))
+      (subst (λ z. Alike
+      (record { reply = call κ g z (lend b (x .wind) op) (x .field) .reply; state = record { field = call κ g z (lend b (x .wind) op) (x .field) .field; wind = x .wind } })
+      (record { reply = call κ g z (lend b (x .wind) op) (y .field) .reply; state = record { field = call κ g z (lend b (x .wind) op) (y .field) .field; wind = y .wind } }))
       (sym (eqb→eq t s m)) (on-s (lend b (x .wind) op) x y h))
 
   pub record Struck (cs ks : List Call) (x y : State) (left : List (Answer (List ℤ))) : Type 0 where
@@ -65,15 +73,16 @@ module _ (κ : Kind) (g : Shape) (b : Buffers) (s : ℕ) where
     pub replies-left : run κ g b ks y .replies ≡ left
 
   strike-one : (c : Call) (cs : List Call) (x y : State) → Like x y
-    → ((x y : State) → Like x y → Struck cs (strike s cs) x y (repliesLeft s cs (run κ g b cs x .replies)))
-    → Struck (c ∷ cs) (strike s (c ∷ cs)) x y (repliesLeft s (c ∷ cs) (run κ g b (c ∷ cs) x .replies))
+      → ((x y : State) → Like x y → Struck cs (strike s cs) x y (repliesLeft s cs (run κ g b cs x .replies)))
+      → Struck (c ∷ cs) (strike s (c ∷ cs)) x y (repliesLeft s (c ∷ cs) (run κ g b (c ∷ cs) x .replies))
   unfolding run strike repliesLeft
   strike-one c cs x y h ih = go (stays s c) (λ t. kept c x y t h) (λ t. other c x y t h)
     where
       d : Performed κ g b
       d = perform κ g b c x
+
       go : (t : Bool) → (T t → Alike d (perform κ g b c y)) → (T (not t) → Like (d .state) y)
-        → Struck (c ∷ cs) (cond t (c ∷ strike s cs) (strike s cs)) x y (cond t (d .reply ∷ repliesLeft s cs (run κ g b cs (d .state) .replies)) (repliesLeft s cs (run κ g b cs (d .state) .replies)))
+          → Struck (c ∷ cs) (cond t (c ∷ strike s cs) (strike s cs)) x y (cond t (d .reply ∷ repliesLeft s cs (run κ g b cs (d .state) .replies)) (repliesLeft s cs (run κ g b cs (d .state) .replies)))
       go true yes′ no′ = let k = ih (d .state) (perform κ g b c y .state) (yes′ tt .states) in record { ends = k .ends; replies-left = ap₂ _∷_ (sym (yes′ tt .replies)) (k .replies-left) }
       go false yes′ no′ = let k = ih (d .state) y (no′ tt) in record { ends = k .ends; replies-left = k .replies-left }
 

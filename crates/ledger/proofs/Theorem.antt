@@ -15,18 +15,18 @@ use Rattle.ledger.proofs.Striking.{Like, struck}
 
 -- for any kind of element whose weights sum to more than 0, every shape, buffers of any content that are long enough, every list
 pub demand-3-of : (κ : Kind) → 0 < weightSum κ → (g : Shape) (b : Buffers) (field : List ℕ) (wind : List ℤ) → fieldLength κ g ≤ length field → (calls : List Call)
-  → Demand3 κ g b field wind (weightSum κ) limit calls
+    → Demand3 κ g b field wind (weightSum κ) limit calls
 demand-3-of κ hw g b field wind room calls =
     let fine = list-fine κ g hw field wind room b calls in
     let start = fresh-fine κ g hw field wind room in
     let st = fresh κ g field wind in
     let like : (s : ℕ) → Like κ g b s st st = λ s. record { room₁ = start .room; room₂ = start .room; winds = refl; parts = refl } in
-    record
-    { ledger-agrees = fine .agree
-    ; remainders = λ s h e l. fine .good s h .small e l
-    ; totals = λ s h. fine .good s h .bounded
-    ; replies-stay = λ s h. struck κ g b s calls st st (like s) .replies-left
-    ; part-stays = λ s h. sym (struck κ g b s calls st st (like s) .ends .parts)
+    record {
+      ledger-agrees = fine .agree;
+      remainders = λ s h e l. fine .good s h .small e l;
+      totals = λ s h. fine .good s h .bounded;
+      replies-stay = λ s h. struck κ g b s calls st st (like s) .replies-left;
+      part-stays = λ s h. sym (struck κ g b s calls st st (like s) .ends .parts);
     }
 
 weights-36 : weightSum quadratic ≡ 36
@@ -36,4 +36,4 @@ weights-36 = refl
 -- DEMAND 3 of document 01's quadratic elements
 pub demand-3 : (g : Shape) (b : Buffers) (field : List ℕ) (wind : List ℤ) → fieldLength quadratic g ≤ length field → (calls : List Call) → Demand3 quadratic g b field wind 36 100000000 calls
 demand-3 g b field wind room calls =
-  subst (λ n. Demand3 quadratic g b field wind n 100000000 calls) weights-36 (demand-3-of quadratic (subst (λ n. 0 < n) (sym weights-36) (omega arith)) g b field wind room calls)
+    subst (λ n. Demand3 quadratic g b field wind n 100000000 calls) weights-36 (demand-3-of quadratic (subst (λ n. 0 < n) (sym weights-36) (omega arith)) g b field wind room calls)

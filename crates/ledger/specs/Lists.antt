@@ -30,7 +30,7 @@ pub record Buffers : Type 0 where
 -- "The list starts with field and wind all zero": the state after the call Fresh, whatever the buffers held
 unfoldable pub fresh : Kind → Shape → List ℕ → List ℤ → State
 unfolding zeroField zeroWind
-fresh κ g field wind = record { field = zeroField κ g field; wind = zeroWind g wind }
+fresh κ g field wind = record { field = zeroField κ g field; wind = zeroWind κ g wind }
 
 -- the operation with what it is lent
 unfoldable pub lend : Buffers → List ℤ → Operation (Unit {0}) → Operation Lent

@@ -32,8 +32,8 @@ use Rattle.rules.proofs.StepLaws.{held-closed, held-unlevelled, length-
 -- element (i, j) of a grid has an index below the number of elements
 pub on-grid-lt : (g : Shape) (i j : ℕ) → T (onGrid g i j) → element g i j < elements g
 on-grid-lt g i j t =
-  let b = both-yes (ltb i (g .nx)) (ltb j (g .ny)) t in
-  omega (arith, digits-lt {q = j} {m = g .ny} {r = i} {c = g .nx} (ltb→lt j (g .ny) (b .1)) (ltb→lt i (g .nx) (b .0)), mul-comm (g .nx) (g .ny))
+    let b = both-yes (ltb i (g .nx)) (ltb j (g .ny)) t in
+    omega (arith, digits-lt {q = j} {m = g .ny} {r = i} {c = g .nx} (ltb→lt j (g .ny) (b .1)) (ltb→lt i (g .nx) (b .0)), mul-comm (g .nx) (g .ny))
 
 -- ---- the numbers of an element after an emission and after a withdrawal
 module _ (κ : Kind) (g : Shape) (e q : ℕ) (p : List ℕ) where
@@ -60,12 +60,12 @@ module _ (κ : Kind) (g : Shape) (e q : ℕ) (p : List ℕ) where
   remainder-withdrawn : q ≤ mass κ p e → remainder κ p e < weightSum κ → getD (withdrawn κ g e q p) (κ .nodes) 0 < weightSum κ
   unfolding withdrawn mass
   remainder-withdrawn b l = subst (λ y. y < weightSum κ)
-    (sym (closed-remainder κ (λ k. pos (cell κ p e k)) (mass κ p e - q) ∙ ap (λ v. closingRemainder κ v (mass κ p e - q)) (truncated-pos (cell κ p e))))
-    (withdrawal-remainder κ (cell κ p e) (remainder κ p e) q l b)
+      (sym (closed-remainder κ (λ k. pos (cell κ p e k)) (mass κ p e - q) ∙ ap (λ v. closingRemainder κ v (mass κ p e - q)) (truncated-pos (cell κ p e))))
+      (withdrawal-remainder κ (cell κ p e) (remainder κ p e) q l b)
 
 -- an accepted operation keeps the length of a part, whatever its numbers are
 pub done-length : (κ : Kind) (g : Shape) (hx : 0 < g .nx) (hy : 0 < g .ny) (op : Operation Lent) (there : Bool) (p : List ℕ) → length p ≡ tracerLength κ g → Passed (checks κ g op there p)
-  → length (done κ g op p .part) ≡ tracerLength κ g
+    → length (done κ g op p .part) ≡ tracerLength κ g
 unfolding done checks tracerStep
 done-length κ g hx hy (load l) there p h c = length-loaded κ g l
 done-length κ g hx hy (emission i j q) there p h c = length-withElement κ g (element g i j) (emitted κ g (element g i j) q p) p (on-grid-lt g i j (c .1 .1 .0)) (length-emitted κ g (element g i j) q p) h
@@ -85,43 +85,54 @@ module _ (κ : Kind) (g : Shape) (e : ℕ) (x p : List ℕ) (he : e < elements g
   -- a line of the ledger for element e: `line` gives the new number from the old one at e, and nothing changes elsewhere
   books-of : (line : ℕ → ℤ) → line e ≡ pos (held κ x) → ((e′ : ℕ) → e ≢ e′ → line e′ ≡ pos (mass κ p e′)) → (e′ : ℕ) → e′ < elements g → line e′ ≡ pos (mass κ new e′)
   books-of line there elsewhere e′ _ = either (eqb e e′)
-    (λ t. let q : e ≡ e′ = eqb→eq e e′ t in subst (λ z. line z ≡ pos (mass κ new z)) q (there ∙ ap pos (sym (mass-there κ g e x p he width (h .size)))))
-    (λ t. let ne : e ≢ e′ = neqb→ne e e′ t in elsewhere e′ ne ∙ ap pos (sym (mass-elsewhere κ g e x p he width (h .size) e′ ne)))
+      (λ t. let q : e ≡ e′ = eqb→eq e e′ t in subst (λ z. line z ≡ pos (mass κ new z)) q (there ∙ ap pos (sym (mass-there κ g e x p he width (h .size)))))
+      (λ t. let ne : e ≢ e′ = neqb→ne e e′ t in elsewhere e′ ne ∙ ap pos (sym (mass-elsewhere κ g e x p he width (h .size) e′ ne)))
 
   good-of : total κ g new ≤ limit → Good κ g new
-  good-of b = record { size = length-withElement κ g e x p he width (h .size); bounded = b;
+  good-of b = record {
+    size = length-withElement κ g e x p he width (h .size);
+    bounded = b;
     small = λ e′ l. either (eqb e e′)
-      (λ t. let q : e ≡ e′ = eqb→eq e e′ t in subst (λ z. remainder κ new z < weightSum κ) q (subst (λ y. y < weightSum κ) (sym (remainder-there κ g e x p he width (h .size))) small))
-      (λ t. subst (λ y. y < weightSum κ) (sym (remainder-elsewhere κ g e x p he width (h .size) e′ (neqb→ne e e′ t))) (h .small e′ l)) }
+        (λ t. let q : e ≡ e′ = eqb→eq e e′ t in subst (λ z. remainder κ new z < weightSum κ) q (subst (λ y. y < weightSum κ) (sym (remainder-there κ g e x p he width (h .size))) small))
+        (λ t. subst (λ y. y < weightSum κ) (sym (remainder-elsewhere κ g e x p he width (h .size) e′ (neqb→ne e e′ t))) (h .small e′ l));
+  }
 
 -- ---- the operations
 load-law : (κ : Kind) (g : Shape) (hw : 0 < weightSum κ) (l p : List ℕ) → total κ g (loaded κ g l) ≤ limit → Kept κ g (load l) p (record { part = loaded κ g l; report = [] })
 unfolding entry
-load-law κ g hw l p b = record
-    { good = record { size = length-loaded κ g l; bounded = b; small = λ e h. subst (λ x. x < weightSum κ) (sym (remainder-loaded κ g l e h)) hw }
-    ; books = λ e h. ap pos (sym (mass-loaded κ g l e h)) }
+load-law κ g hw l p b = record {
+  good = record { size = length-loaded κ g l; bounded = b; small = λ e h. subst (λ x. x < weightSum κ) (sym (remainder-loaded κ g l e h)) hw };
+  books = λ e h. ap pos (sym (mass-loaded κ g l e h));
+}
 
 emission-law : (κ : Kind) (g : Shape) (hw : 0 < weightSum κ) (i j q : ℕ) (p : List ℕ) → Good κ g p → T (onGrid g i j) → total κ g p + q ≤ limit
-  → Kept κ g (emission i j q) p (record { part = withElement κ g (element g i j) (emitted κ g (element g i j) q p) p; report = [] })
+    → Kept κ g (emission i j q) p (record { part = withElement κ g (element g i j) (emitted κ g (element g i j) q p) p; report = [] })
 unfolding entry
 emission-law κ g hw i j q p h on b = record { good = good-of κ g e x p he width h small (subst (λ z. z ≤ limit) (sym sum-is) b); books = books }
   where
     e : ℕ
     e = element g i j
+
     x : List ℕ
     x = emitted κ g e q p
+
     he : e < elements g
     he = on-grid-lt g i j on
+
     width : length x ≡ elementLength κ
     width = length-emitted κ g e q p
+
     small : getD x (κ .nodes) 0 < weightSum κ
     small = remainder-emitted κ g e q p hw
+
     line : ℕ → ℤ
     line e′ = pos (mass κ p e′) +ℤ only (eqb e e′) (pos q)
+
     books : (e′ : ℕ) → e′ < elements g → line e′ ≡ pos (mass κ (withElement κ g e x p) e′)
     books = books-of κ g e x p he width h small line
-      (ap (λ y. pos (mass κ p e) +ℤ y) (only-yes e e (pos q) refl) ∙ ap pos (sym (held-emitted κ g e q p)))
-      (λ e′ ne. ap (λ y. pos (mass κ p e′) +ℤ y) (only-no e e′ (pos q) ne) ∙ +ℤ-idr (pos (mass κ p e′)))
+        (ap (λ y. pos (mass κ p e) +ℤ y) (only-yes e e (pos q) refl) ∙ ap pos (sym (held-emitted κ g e q p)))
+        (λ e′ ne. ap (λ y. pos (mass κ p e′) +ℤ y) (only-no e e′ (pos q) ne) ∙ +ℤ-idr (pos (mass κ p e′)))
+
     sum-is : total κ g (withElement κ g e x p) ≡ total κ g p + q
     sum-is = pos-injective (total-by κ g (withElement κ g e x p) line books ∙ sum-plus (elements g) e (pos q) (λ e. pos (mass κ p e)) he ∙ ap (λ y. y +ℤ pos q) (total-pos κ g p))
 
@@ -129,40 +140,59 @@ sub-pos : (m q : ℕ) → q ≤ m → pos m -ℤ pos q ≡ pos (m - q)
 sub-pos m q h = eq-parts (omega (arith, sub-parts-of (pos m) (pos q), positive-pos m, negative-pos m, positive-pos q, negative-pos q, positive-pos (m - q), negative-pos (m - q)))
 
 withdrawal-law : (κ : Kind) (g : Shape) (i j q : ℕ) (p : List ℕ) → Good κ g p → T (onGrid g i j) → q ≤ mass κ p (element g i j)
-  → Kept κ g (withdrawal i j q) p (record { part = withElement κ g (element g i j) (withdrawn κ g (element g i j) q p) p; report = [] })
+    → Kept κ g (withdrawal i j q) p (record { part = withElement κ g (element g i j) (withdrawn κ g (element g i j) q p) p; report = [] })
 unfolding entry
 withdrawal-law κ g i j q p h on b = record { good = good-of κ g e x p he width h small fewer; books = books }
   where
     e : ℕ
     e = element g i j
+
     x : List ℕ
     x = withdrawn κ g e q p
+
     he : e < elements g
     he = on-grid-lt g i j on
+
     width : length x ≡ elementLength κ
     width = length-withdrawn κ g e q p
+
     small : getD x (κ .nodes) 0 < weightSum κ
     small = remainder-withdrawn κ g e q p b (h .small e he)
+
     line : ℕ → ℤ
     line e′ = pos (mass κ p e′) -ℤ only (eqb e e′) (pos q)
+
     books : (e′ : ℕ) → e′ < elements g → line e′ ≡ pos (mass κ (withElement κ g e x p) e′)
     books = books-of κ g e x p he width h small line
-      (ap (λ y. pos (mass κ p e) -ℤ y) (only-yes e e (pos q) refl) ∙ sub-pos (mass κ p e) q b ∙ ap pos (sym (held-withdrawn κ g e q p)))
-      (λ e′ ne. ap (λ y. pos (mass κ p e′) -ℤ y) (only-no e e′ (pos q) ne) ∙ +ℤ-idr (pos (mass κ p e′)))
+        (ap (λ y. pos (mass κ p e) -ℤ y) (only-yes e e (pos q) refl) ∙ sub-pos (mass κ p e) q b ∙ ap pos (sym (held-withdrawn κ g e q p)))
+        (λ e′ ne. ap (λ y. pos (mass κ p e′) -ℤ y) (only-no e e′ (pos q) ne) ∙ +ℤ-idr (pos (mass κ p e′)))
+
     sum-is : pos (total κ g (withElement κ g e x p)) ≡ pos (total κ g p) -ℤ pos q
     sum-is = total-by κ g (withElement κ g e x p) line books ∙ sum-minus (elements g) e (pos q) (λ e. pos (mass κ p e)) he ∙ ap (λ y. y -ℤ pos q) (total-pos κ g p)
+
     fewer : total κ g (withElement κ g e x p) ≤ limit
-    fewer = omega (arith, h .bounded, ap positive sum-is, ap negative sum-is, positive-pos (total κ g (withElement κ g e x p)), negative-pos (total κ g (withElement κ g e x p)),
-      sub-parts-of (pos (total κ g p)) (pos q), positive-pos (total κ g p), negative-pos (total κ g p), positive-pos q, negative-pos q)
+    fewer = omega (
+      arith,
+      h .bounded,
+      ap positive sum-is,
+      ap negative sum-is,
+      positive-pos (total κ g (withElement κ g e x p)),
+      negative-pos (total κ g (withElement κ g e x p)),
+      sub-parts-of (pos (total κ g p)) (pos q),
+      positive-pos (total κ g p),
+      negative-pos (total κ g p),
+      positive-pos q,
+      negative-pos q,
+    )
 
 step-law : (κ : Kind) (g : Shape) (hw : 0 < weightSum κ) (hx : 0 < g .nx) (hy : 0 < g .ny) (l : Lent) (p : List ℕ) → Good κ g p → Kept κ g (step l) p (tracerStep κ g (windAt (l .wind)) p)
 unfolding entry tracerStep
 step-law κ g hw hx hy l p h =
-  let w = windAt (l .wind) in
-  record { good = good-after κ g hx hy w p (stages κ g w p) hw (h .bounded); books = books-after κ g hx hy w p (stages κ g w p) }
+    let w = windAt (l .wind) in
+    record { good = good-after κ g hx hy w p (stages κ g w p) hw (h .bounded); books = books-after κ g hx hy w p (stages κ g w p) }
 
 pub operation-law : (κ : Kind) (g : Shape) (hw : 0 < weightSum κ) (hx : 0 < g .nx) (hy : 0 < g .ny) (op : Operation Lent) (there : Bool) (p : List ℕ) → Good κ g p → Passed (checks κ g op there p)
-  → Kept κ g op p (done κ g op p)
+    → Kept κ g op p (done κ g op p)
 unfolding done checks tracerStep
 operation-law κ g hw hx hy (load l) there p h c = load-law κ g hw l p (leb→le _ _ (c .1 .0))
 operation-law κ g hw hx hy (emission i j q) there p h c = emission-law κ g hw i j q p h (c .1 .1 .0) (leb→le _ _ (c .1 .1 .1 .0))

@@ -56,10 +56,24 @@ positive-only false x = refl
 -- a face takes from its donor alone, and at most its size
 takes : (z : ℤ) (n to from e : ℕ) → negative (only (eqb to e) (withSign z n) -ℤ only (eqb from e) (withSign z n)) ≤ cond (eqb (cond (nonNeg z) from to) e) n 0
 unfolding withSign
-takes (pos a) n to from e = omega (arith, negative-diff (only (eqb to e) (pos n)) (only (eqb from e) (pos n)), negative-only (eqb to e) (pos n), positive-only (eqb from e) (pos n),
-    ap (λ x. cond (eqb to e) x 0) (negative-pos n), ap (λ x. cond (eqb from e) x 0) (positive-pos n), cond-same {A = ℕ} (eqb to e) 0)
-takes (negsuc a) n to from e = omega (arith, negative-diff (only (eqb to e) (negℤ (pos n))) (only (eqb from e) (negℤ (pos n))), negative-only (eqb to e) (negℤ (pos n)), positive-only (eqb from e) (negℤ (pos n)),
-    ap (λ x. cond (eqb to e) x 0) (negative-neg (pos n) ∙ positive-pos n), ap (λ x. cond (eqb from e) x 0) (positive-neg (pos n) ∙ negative-pos n), cond-same {A = ℕ} (eqb from e) 0)
+takes (pos a) n to from e = omega (
+  arith,
+  negative-diff (only (eqb to e) (pos n)) (only (eqb from e) (pos n)),
+  negative-only (eqb to e) (pos n),
+  positive-only (eqb from e) (pos n),
+  ap (λ x. cond (eqb to e) x 0) (negative-pos n),
+  ap (λ x. cond (eqb from e) x 0) (positive-pos n),
+  cond-same {A = ℕ} (eqb to e) 0,
+)
+takes (negsuc a) n to from e = omega (
+  arith,
+  negative-diff (only (eqb to e) (negℤ (pos n))) (only (eqb from e) (negℤ (pos n))),
+  negative-only (eqb to e) (negℤ (pos n)),
+  positive-only (eqb from e) (negℤ (pos n)),
+  ap (λ x. cond (eqb to e) x 0) (negative-neg (pos n) ∙ positive-pos n),
+  ap (λ x. cond (eqb from e) x 0) (positive-neg (pos n) ∙ negative-pos n),
+  cond-same {A = ℕ} (eqb from e) 0,
+)
 
 module _ (g : Shape) (m : ℕ → ℕ) (flux : ℕ → ℤ) where
   -- the limited fluxes, by the outflows as the rules state them
@@ -76,7 +90,7 @@ module _ (g : Shape) (m : ℕ → ℕ) (flux : ℕ → ℤ) where
   outflow-weighed : (e : ℕ) → outflow g flux e ≡ sum (faces g) (λ f. one-if (eqb (donor g flux f) e) * natAbs (flux f))
   unfolding outflow
   outflow-weighed e = sum-cong (faces g) (λ f. cond (eqb (donor g flux f) e) (natAbs (flux f)) 0) (λ f. one-if (eqb (donor g flux f) e) * natAbs (flux f))
-    (λ f _. weigh (eqb (donor g flux f) e) (natAbs (flux f)))
+      (λ f _. weigh (eqb (donor g flux f) e) (natAbs (flux f)))
 
   -- what leaves element e over the faces where it is donor
   abbrev pub leaving : ℕ → ℕ
@@ -86,27 +100,27 @@ module _ (g : Shape) (m : ℕ → ℕ) (flux : ℕ → ℤ) where
   leaving-le e = le-trans (le-of-eq (sum-cong (faces g) (λ f. cond (eqb (donor g flux f) e) (natAbs (limited f)) 0)
       (λ f. one-if (eqb (donor g flux f) e) * rescaled (sum (faces g) (λ f. one-if (eqb (donor g flux f) e) * natAbs (flux f))) (m e) (natAbs (flux f)))
       (λ f _. ap (λ x. cond (eqb (donor g flux f) e) x 0) (abs-limited f) ∙ at-e (donor g flux f) e (λ x. size x f) ∙ weigh (eqb (donor g flux f) e) (size e f)
-        ∙ ap (λ x. one-if (eqb (donor g flux f) e) * rescaled x (m e) (natAbs (flux f))) (outflow-weighed e))))
-    (rescaled-le (faces g) (λ f. one-if (eqb (donor g flux f) e)) (λ f. natAbs (flux f)) (m e))
+      ∙ ap (λ x. one-if (eqb (donor g flux f) e) * rescaled x (m e) (natAbs (flux f))) (outflow-weighed e))))
+      (rescaled-le (faces g) (λ f. one-if (eqb (donor g flux f) e)) (λ f. natAbs (flux f)) (m e))
 
   -- a limited flux is at most what its donor holds
   pub limited-le : (f : ℕ) → f < faces g → natAbs (limited f) ≤ m (donor g flux f)
   limited-le f h =
-    let d = donor g flux f in
-    le-trans (le-trans (le-of-eq (sym (cond-yes (eqb d d) (natAbs (limited f)) 0 (eqb-refl d))))
+      let d = donor g flux f in
+      le-trans (le-trans (le-of-eq (sym (cond-yes (eqb d d) (natAbs (limited f)) 0 (eqb-refl d))))
       (term-le (faces g) (λ x. cond (eqb (donor g flux x) d) (natAbs (limited x)) 0) f h)) (leaving-le d)
 
   taken-le : (e f : ℕ) → negative (moved g limited e f) ≤ cond (eqb (donor g flux f) e) (natAbs (limited f)) 0
   unfolding moved limitedFlux cut donor
   taken-le e f = le-trans (takes (flux f) (size (donor g flux f) f) (ahead g f) (behind g f) e)
-    (le-of-eq (ap (λ x. cond (eqb (donor g flux f) e) x 0) (sym (abs-limited f))))
+      (le-of-eq (ap (λ x. cond (eqb (donor g flux f) e) x 0) (sym (abs-limited f))))
 
   -- so no target is below 0
   pub target-negative : (hx : 0 < g .nx) (hy : 0 < g .ny) (e : ℕ) → e < elements g → negative (target g m limited e) ≡ 0
   target-negative hx hy e h =
-    let s : ℤ = sumℤ (faces g) (moved g limited e) in
-    let le = sum-le (faces g) (λ f. negative (moved g limited e f)) (λ f. cond (eqb (donor g flux f) e) (natAbs (limited f)) 0) (λ f _. taken-le e f) in
-    ap negative (sym (target-is g hx hy m limited e h))
+      let s : ℤ = sumℤ (faces g) (moved g limited e) in
+      let le = sum-le (faces g) (λ f. negative (moved g limited e f)) (λ f. cond (eqb (donor g flux f) e) (natAbs (limited f)) 0) (λ f _. taken-le e f) in
+      ap negative (sym (target-is g hx hy m limited e h))
       ∙ not-below (pos (m e) +ℤ s) (omega (arith, le, leaving-le e, sumℤ-parts (faces g) (moved g limited e), add-parts (pos (m e)) s, positive-pos (m e), negative-pos (m e)))
 
   pub target-above : (hx : 0 < g .nx) (hy : 0 < g .ny) (e : ℕ) → e < elements g → pos 0 ≤ℤ target g m limited e
@@ -119,8 +133,8 @@ pos-cond false x = refl
 
 sum-where : (n : ℕ) (p x : ℕ → ℕ) (e q : ℕ) → q < n → p q ≡ e → ((f : ℕ) → f < n → p f ≡ e → f ≡ q) → sum n (λ f. cond (eqb (p f) e) (x f) 0) ≡ x q
 sum-where n p x e q h y inj = pos-injective (sym (sum-pos n (λ f. cond (eqb (p f) e) (x f) 0))
-  ∙ sumℤ-cong n (λ f. pos (cond (eqb (p f) e) (x f) 0)) (λ f. only (eqb (p f) e) (pos (x f))) (λ f _. pos-cond (eqb (p f) e) (x f))
-  ∙ sum-only n p (λ f. pos (x f)) e q h y inj)
+    ∙ sumℤ-cong n (λ f. pos (cond (eqb (p f) e) (x f) 0)) (λ f. only (eqb (p f) e) (pos (x f))) (λ f _. pos-cond (eqb (p f) e) (x f))
+    ∙ sum-only n p (λ f. pos (x f)) e q h y inj)
 
 -- a face's size is taken once: from behind where the flux is positive, from ahead where it is negative
 once : (z : ℤ) (from to e : ℕ) → cond (eqb (cond (nonNeg z) from to) e) (natAbs z) 0 ≡ cond (eqb from e) (positive z) 0 + cond (eqb to e) (negative z) 0
@@ -132,18 +146,18 @@ module _ (g : Shape) (flux : ℕ → ℤ) (d : Direction g) where
   out-one-way : (e : ℕ) → e < elements g → sum (elements g) (λ f. cond (eqb (donor g flux (d .at f)) e) (natAbs (flux (d .at f))) 0) ≡ positive (flux (d .at e)) + negative (flux (d .at (d .back e)))
   unfolding donor
   out-one-way e h =
-    sum-cong (elements g) (λ f. cond (eqb (donor g flux (d .at f)) e) (natAbs (flux (d .at f))) 0)
+      sum-cong (elements g) (λ f. cond (eqb (donor g flux (d .at f)) e) (natAbs (flux (d .at f))) 0)
       (λ f. cond (eqb f e) (positive (flux (d .at f))) 0 + cond (eqb (d .on f) e) (negative (flux (d .at f))) 0)
       (λ f l. once (flux (d .at f)) (behind g (d .at f)) (ahead g (d .at f)) e
-        ∙ ap₂ (λ a b. cond (eqb a e) (positive (flux (d .at f))) 0 + cond (eqb b e) (negative (flux (d .at f))) 0) (d .behind-is f l) (d .ahead-is f l))
-    ∙ sum-add (elements g) (λ f. cond (eqb f e) (positive (flux (d .at f))) 0) (λ f. cond (eqb (d .on f) e) (negative (flux (d .at f))) 0)
-    ∙ ap₂ _+_
-        (sum-where (elements g) (λ f. f) (λ f. positive (flux (d .at f))) e e h refl (λ f l z. z))
-        (sum-where (elements g) (d .on) (λ f. negative (flux (d .at f))) e (d .back e) (d .back-lt e h) (d .on-of-back e h) (λ f l z. sym (d .back-of-on f l) ∙ ap (d .back) z))
+      ∙ ap₂ (λ a b. cond (eqb a e) (positive (flux (d .at f))) 0 + cond (eqb b e) (negative (flux (d .at f))) 0) (d .behind-is f l) (d .ahead-is f l))
+      ∙ sum-add (elements g) (λ f. cond (eqb f e) (positive (flux (d .at f))) 0) (λ f. cond (eqb (d .on f) e) (negative (flux (d .at f))) 0)
+      ∙ ap₂ _+_
+      (sum-where (elements g) (λ f. f) (λ f. positive (flux (d .at f))) e e h refl (λ f l z. z))
+      (sum-where (elements g) (d .on) (λ f. negative (flux (d .at f))) e (d .back e) (d .back-lt e h) (d .on-of-back e h) (λ f l z. sym (d .back-of-on f l) ∙ ap (d .back) z))
 
 module _ (g : Shape) (hx : 0 < g .nx) (hy : 0 < g .ny) (flux : ℕ → ℤ) where
   pub outflow-local : (e : ℕ) → e < elements g
-    → outflow g flux e ≡ (positive (flux e) + negative (flux (west g e))) + (positive (flux (northFace g e)) + negative (flux (northFace g (south g e))))
+      → outflow g flux e ≡ (positive (flux e) + negative (flux (west g e))) + (positive (flux (northFace g e)) + negative (flux (northFace g (south g e))))
   unfolding outflow
   outflow-local e h = sum-split (elements g) (elements g) (λ f. cond (eqb (donor g flux f) e) (natAbs (flux f)) 0)
-    ∙ ap₂ _+_ (out-one-way g flux (eastward g hx hy) e h) (out-one-way g flux (northward g hx hy) e h)
+      ∙ ap₂ _+_ (out-one-way g flux (eastward g hx hy) e h) (out-one-way g flux (northward g hx hy) e h)

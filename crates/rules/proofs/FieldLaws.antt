@@ -30,13 +30,19 @@ pub record Ranges (g : Shape) : Type 0 where
 pub ranges : (g : Shape) → T (admitted g) → Ranges g
 unfolding admitted
 ranges g t =
-  let a = both-yes (from1to 64 (g .nx)) _ t in
-  let b = both-yes (from1to 64 (g .ny)) _ (a .1) in
-  let x = both-yes (leb 1 (g .nx)) _ (a .0) in
-  let y = both-yes (leb 1 (g .ny)) _ (b .0) in
-  let k = both-yes (leb 1 (g .tracers)) _ (b .1) in
-  record { nx-above = leb→le _ _ (x .0); nx-small = leb→le _ _ (x .1); ny-above = leb→le _ _ (y .0); ny-small = leb→le _ _ (y .1);
-    tracers-above = leb→le _ _ (k .0); tracers-small = leb→le _ _ (k .1) }
+    let a = both-yes (from1to 64 (g .nx)) _ t in
+    let b = both-yes (from1to 64 (g .ny)) _ (a .1) in
+    let x = both-yes (leb 1 (g .nx)) _ (a .0) in
+    let y = both-yes (leb 1 (g .ny)) _ (b .0) in
+    let k = both-yes (leb 1 (g .tracers)) _ (b .1) in
+    record {
+      nx-above = leb→le _ _ (x .0);
+      nx-small = leb→le _ _ (x .1);
+      ny-above = leb→le _ _ (y .0);
+      ny-small = leb→le _ _ (y .1);
+      tracers-above = leb→le _ _ (k .0);
+      tracers-small = leb→le _ _ (k .1);
+    }
 
 -- an operation that passes names a tracer that is there
 there-of : (κ : Kind) (g : Shape) (op : Operation Lent) (there : Bool) (p : List ℕ) → Passed (checks κ g op there p) → T there
@@ -68,19 +74,27 @@ module _ (κ : Kind) (g : Shape) (s : ℕ) (op : Operation Lent) (field : List �
 
   accepted-of : Passed all-checks → Accepted
   unfolding fieldLength
-  accepted-of c = record { shape = shape; room = room; tracer = tracer; passed = c .1 .1; end = omega (arith, room, part-room (tracerLength κ g) tracer);
-      size = done-length κ g (shape .nx-above) (shape .ny-above) op (ltb s (g .tracers)) p (part-length κ g s field tracer room) (c .1 .1) }
+  accepted-of c = record {
+    shape = shape;
+    room = room;
+    tracer = tracer;
+    passed = c .1 .1;
+    end = omega (arith, room, part-room (tracerLength κ g) tracer);
+    size = done-length κ g (shape .nx-above) (shape .ny-above) op (ltb s (g .tracers)) p (part-length κ g s field tracer room) (c .1 .1);
+  }
     where
       shape : Ranges g
       shape = ranges g (c .0)
+
       room : fieldLength κ g ≤ length field
       room = leb→le _ _ (both-yes (leb (fieldLength κ g) (length field)) _ (c .1 .0) .0)
+
       tracer : s < g .tracers
       tracer = ltb→lt _ _ (there-of κ g op (ltb s (g .tracers)) p (c .1 .1))
 
   -- a call is refused and changes nothing, or is accepted and writes the part that the operation leaves
   pub call-ind {ℓ} : (P : Answer (List ℤ) → List ℕ → Type ℓ) → ((n : ℕ) → P (refused n) field) → (Accepted → P (accepted (d .report)) (withPart κ g s (d .part) field))
-    → P (call κ g s op field .reply) (call κ g s op field .field)
+      → P (call κ g s op field .reply) (call κ g s op field .field)
   unfolding call after
   call-ind P no′ yes′ = answer-ind (λ a. P a (after a (withPart κ g s (d .part) field) field)) all-checks (d .report) no′ (λ c. yes′ (accepted-of c))
 

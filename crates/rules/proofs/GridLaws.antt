@@ -53,8 +53,17 @@ unfolding behind ahead
 moved g x e f = only (eqb (ahead g f) e) (x f) -ℤ only (eqb (behind g f) e) (x f)
 
 arrange : (m a b c d : ℤ) → m +ℤ ((b +ℤ a) +ℤ (d +ℤ c)) ≡ m +ℤ a +ℤ b +ℤ c +ℤ d
-arrange m a b c d = eq-parts (omega (arith, add-parts m ((b +ℤ a) +ℤ (d +ℤ c)), add-parts (b +ℤ a) (d +ℤ c), add-parts b a, add-parts d c,
-    add-parts (m +ℤ a +ℤ b +ℤ c) d, add-parts (m +ℤ a +ℤ b) c, add-parts (m +ℤ a) b, add-parts m a))
+arrange m a b c d = eq-parts (omega (
+  arith,
+  add-parts m ((b +ℤ a) +ℤ (d +ℤ c)),
+  add-parts (b +ℤ a) (d +ℤ c),
+  add-parts b a,
+  add-parts d c,
+  add-parts (m +ℤ a +ℤ b +ℤ c) d,
+  add-parts (m +ℤ a +ℤ b) c,
+  add-parts (m +ℤ a) b,
+  add-parts m a,
+))
 
 module _ (g : Shape) (hx : 0 < g .nx) (hy : 0 < g .ny) where
   row-lt : (e : ℕ) → e < elements g → e / g .nx < g .ny
@@ -82,22 +91,22 @@ module _ (g : Shape) (hx : 0 < g .nx) (hy : 0 < g .ny) where
   pub east-west : (e : ℕ) → e < elements g → east g (west g e) ≡ e
   unfolding east west
   east-west e h = ap₂ (λ a b. a * g .nx + (b + 1) % g .nx) (digits-div (e / g .nx) (mod-lt _ hx)) (digits-mod (e / g .nx) (mod-lt _ hx))
-    ∙ ap (λ x. e / g .nx * g .nx + x) (on-back (g .nx) (e % g .nx) (mod-lt e hx)) ∙ div-add-mod' e (g .nx)
+      ∙ ap (λ x. e / g .nx * g .nx + x) (on-back (g .nx) (e % g .nx) (mod-lt e hx)) ∙ div-add-mod' e (g .nx)
 
   pub west-east : (e : ℕ) → e < elements g → west g (east g e) ≡ e
   unfolding east west
   west-east e h = ap₂ (λ a b. a * g .nx + (b + (g .nx - 1)) % g .nx) (digits-div (e / g .nx) (mod-lt _ hx)) (digits-mod (e / g .nx) (mod-lt _ hx))
-    ∙ ap (λ x. e / g .nx * g .nx + x) (back-on (g .nx) (e % g .nx) (mod-lt e hx)) ∙ div-add-mod' e (g .nx)
+      ∙ ap (λ x. e / g .nx * g .nx + x) (back-on (g .nx) (e % g .nx) (mod-lt e hx)) ∙ div-add-mod' e (g .nx)
 
   pub north-south : (e : ℕ) → e < elements g → north g (south g e) ≡ e
   unfolding north south
   north-south e h = ap₂ (λ a b. (a + 1) % g .ny * g .nx + b) (digits-div _ (mod-lt e hx)) (digits-mod _ (mod-lt e hx))
-    ∙ ap (λ x. x * g .nx + e % g .nx) (on-back (g .ny) (e / g .nx) (row-lt e h)) ∙ div-add-mod' e (g .nx)
+      ∙ ap (λ x. x * g .nx + e % g .nx) (on-back (g .ny) (e / g .nx) (row-lt e h)) ∙ div-add-mod' e (g .nx)
 
   pub south-north : (e : ℕ) → e < elements g → south g (north g e) ≡ e
   unfolding north south
   south-north e h = ap₂ (λ a b. (a + (g .ny - 1)) % g .ny * g .nx + b) (digits-div _ (mod-lt e hx)) (digits-mod _ (mod-lt e hx))
-    ∙ ap (λ x. x * g .nx + e % g .nx) (back-on (g .ny) (e / g .nx) (row-lt e h)) ∙ div-add-mod' e (g .nx)
+      ∙ ap (λ x. x * g .nx + e % g .nx) (back-on (g .ny) (e / g .nx) (row-lt e h)) ∙ div-add-mod' e (g .nx)
 
 -- ---- the ends of east and of north faces
 module _ (g : Shape) where
@@ -134,7 +143,7 @@ module _ (g : Shape) (hx : 0 < g .nx) (hy : 0 < g .ny) where
   pub ahead-lt : (f : ℕ) → f < faces g → ahead g f < elements g
   unfolding ahead
   ahead-lt f h = cond-ind (looksEast g f) (east g f) (north g (f - elements g)) (λ x. x < elements g)
-    (λ t. east-lt g hx hy f (ltb→lt f (elements g) t)) (λ t. north-lt g hx hy (f - elements g) (omega (arith, nltb→le f (elements g) t)))
+      (λ t. east-lt g hx hy f (ltb→lt f (elements g) t)) (λ t. north-lt g hx hy (f - elements g) (omega (arith, nltb→le f (elements g) t)))
 
 -- ---- the faces that look one way: face `at f` runs from f to on f, and back undoes on
 pub record Direction (g : Shape) : Type 0 where
@@ -149,31 +158,47 @@ pub record Direction (g : Shape) : Type 0 where
 
 module _ (g : Shape) (hx : 0 < g .nx) (hy : 0 < g .ny) where
   abbrev pub eastward : Direction g
-  eastward = record { at = λ f. f; on = east g; back = west g; back-lt = west-lt g hx hy; on-of-back = east-west g hx hy; back-of-on = west-east g hx hy;
-    behind-is = behind-east g; ahead-is = ahead-east g }
+  eastward = record {
+    at = λ f. f;
+    on = east g;
+    back = west g;
+    back-lt = west-lt g hx hy;
+    on-of-back = east-west g hx hy;
+    back-of-on = west-east g hx hy;
+    behind-is = behind-east g;
+    ahead-is = ahead-east g;
+  }
 
   abbrev pub northward : Direction g
-  northward = record { at = northFace g; on = north g; back = south g; back-lt = south-lt g hx hy; on-of-back = north-south g hx hy; back-of-on = south-north g hx hy;
-    behind-is = behind-north g; ahead-is = ahead-north g }
+  northward = record {
+    at = northFace g;
+    on = north g;
+    back = south g;
+    back-lt = south-lt g hx hy;
+    on-of-back = north-south g hx hy;
+    back-of-on = south-north g hx hy;
+    behind-is = behind-north g;
+    ahead-is = ahead-north g;
+  }
 
 module _ (g : Shape) (d : Direction g) where
   -- what the faces of one direction do to element e: the face behind it adds, its own takes
   moved-one-way : (x : ℕ → ℤ) (e : ℕ) → e < elements g → sumℤ (elements g) (λ f. moved g x e (d .at f)) ≡ x (d .at (d .back e)) +ℤ negℤ (x (d .at e))
   unfolding moved
   moved-one-way x e h =
-    sumℤ-cong (elements g) (λ f. moved g x e (d .at f)) (λ f. only (eqb (d .on f) e) (x (d .at f)) +ℤ only (eqb f e) (negℤ (x (d .at f))))
+      sumℤ-cong (elements g) (λ f. moved g x e (d .at f)) (λ f. only (eqb (d .on f) e) (x (d .at f)) +ℤ only (eqb f e) (negℤ (x (d .at f))))
       (λ f l. ap₂ (λ a b. only (eqb a e) (x (d .at f)) -ℤ only (eqb b e) (x (d .at f))) (d .ahead-is f l) (d .behind-is f l)
-        ∙ ap (λ y. only (eqb (d .on f) e) (x (d .at f)) +ℤ y) (only-neg (eqb f e) (x (d .at f))))
-    ∙ sumℤ-add (elements g) (λ f. only (eqb (d .on f) e) (x (d .at f))) (λ f. only (eqb f e) (negℤ (x (d .at f))))
-    ∙ ap₂ _+ℤ_
-        (sum-only (elements g) (d .on) (λ f. x (d .at f)) e (d .back e) (d .back-lt e h) (d .on-of-back e h) (λ f l z. sym (d .back-of-on f l) ∙ ap (d .back) z))
-        (sum-only (elements g) (λ f. f) (λ f. negℤ (x (d .at f))) e e h refl (λ f l z. z))
+      ∙ ap (λ y. only (eqb (d .on f) e) (x (d .at f)) +ℤ y) (only-neg (eqb f e) (x (d .at f))))
+      ∙ sumℤ-add (elements g) (λ f. only (eqb (d .on f) e) (x (d .at f))) (λ f. only (eqb f e) (negℤ (x (d .at f))))
+      ∙ ap₂ _+ℤ_
+      (sum-only (elements g) (d .on) (λ f. x (d .at f)) e (d .back e) (d .back-lt e h) (d .on-of-back e h) (λ f l z. sym (d .back-of-on f l) ∙ ap (d .back) z))
+      (sum-only (elements g) (λ f. f) (λ f. negℤ (x (d .at f))) e e h refl (λ f l z. z))
 
 module _ (g : Shape) (hx : 0 < g .nx) (hy : 0 < g .ny) where
   -- over all faces, what is moved at e is the rule of the target
   pub target-is : (m : ℕ → ℕ) (x : ℕ → ℤ) (e : ℕ) → e < elements g → pos (m e) +ℤ sumℤ (faces g) (moved g x e) ≡ target g m x e
   unfolding target
   target-is m x e h =
-    ap (λ y. pos (m e) +ℤ y) (sumℤ-split (elements g) (elements g) (moved g x e)
+      ap (λ y. pos (m e) +ℤ y) (sumℤ-split (elements g) (elements g) (moved g x e)
       ∙ ap₂ _+ℤ_ (moved-one-way g (eastward g hx hy) x e h) (moved-one-way g (northward g hx hy) x e h))
-    ∙ arrange (pos (m e)) (negℤ (x e)) (x (west g e)) (negℤ (x (northFace g e))) (x (northFace g (south g e)))
+      ∙ arrange (pos (m e)) (negℤ (x e)) (x (west g e)) (negℤ (x (northFace g e))) (x (northFace g (south g e)))

@@ -25,26 +25,26 @@ pub carried-sum : (g : Shape) (x held : ℕ → ℤ) (n e : ℕ) → carried g x
 unfolding carried sumℤ moved
 carried-sum g x held zero e = sym (+ℤ-idr (held e))
 carried-sum g x held (suc f) e = ap (λ y. y -ℤ only (eqb (behind g f) e) (x f) +ℤ only (eqb (ahead g f) e) (x f)) (carried-sum g x held f e)
-  ∙ arrange (held e) (sumℤ f (moved g x e)) (negℤ (only (eqb (behind g f) e) (x f))) (only (eqb (ahead g f) e) (x f))
+    ∙ arrange (held e) (sumℤ f (moved g x e)) (negℤ (only (eqb (behind g f) e) (x f))) (only (eqb (ahead g f) e) (x f))
 
 -- ---- an amount at one element changes the sum by that amount
 pub sum-plus : (n t : ℕ) (x : ℤ) (held : ℕ → ℤ) → t < n → sumℤ n (λ e. held e +ℤ only (eqb t e) x) ≡ sumℤ n held +ℤ x
 sum-plus n t x held h = sumℤ-add n held (λ e. only (eqb t e) x)
-  ∙ ap (λ y. sumℤ n held +ℤ y) (sumℤ-single n (λ e. only (eqb t e) x) t h (λ e _ ne. only-no t e x (λ z. ne (sym z))) ∙ only-yes t t x refl)
+    ∙ ap (λ y. sumℤ n held +ℤ y) (sumℤ-single n (λ e. only (eqb t e) x) t h (λ e _ ne. only-no t e x (λ z. ne (sym z))) ∙ only-yes t t x refl)
 
 pub sum-minus : (n t : ℕ) (x : ℤ) (held : ℕ → ℤ) → t < n → sumℤ n (λ e. held e -ℤ only (eqb t e) x) ≡ sumℤ n held -ℤ x
 sum-minus n t x held h = sumℤ-cong n (λ e. held e -ℤ only (eqb t e) x) (λ e. held e +ℤ only (eqb t e) (negℤ x)) (λ e _. ap (λ y. held e +ℤ y) (only-neg (eqb t e) x))
-  ∙ sum-plus n t (negℤ x) held h
+    ∙ sum-plus n t (negℤ x) held h
 
 -- going through the faces keeps the sum: what comes off one element is added to another
 pub carried-keeps : (g : Shape) (hx : 0 < g .nx) (hy : 0 < g .ny) (x held : ℕ → ℤ) (n : ℕ) → n ≤ faces g → sumℤ (elements g) (carried g x n held) ≡ sumℤ (elements g) held
 unfolding carried
 carried-keeps g hx hy x held zero h = refl
 carried-keeps g hx hy x held (suc f) h =
-  sum-plus (elements g) (ahead g f) (x f) (λ e. carried g x f held e -ℤ only (eqb (behind g f) e) (x f)) (ahead-lt g hx hy f (omega arith))
-  ∙ ap (λ y. y +ℤ x f) (sum-minus (elements g) (behind g f) (x f) (carried g x f held) (behind-lt g hx hy f (omega arith)))
-  ∙ -ℤ-+ℤ-cancel (sumℤ (elements g) (carried g x f held)) (x f)
-  ∙ carried-keeps g hx hy x held f (omega arith)
+    sum-plus (elements g) (ahead g f) (x f) (λ e. carried g x f held e -ℤ only (eqb (behind g f) e) (x f)) (ahead-lt g hx hy f (omega arith))
+    ∙ ap (λ y. y +ℤ x f) (sum-minus (elements g) (behind g f) (x f) (carried g x f held) (behind-lt g hx hy f (omega arith)))
+    ∙ -ℤ-+ℤ-cancel (sumℤ (elements g) (carried g x f held)) (x f)
+    ∙ carried-keeps g hx hy x held f (omega arith)
 
 -- a line reads the ledger at its own element only
 pub entry-cong : {A : Type 0} (κ : Kind) (g : Shape) (op : Operation A) (a : Answer (List ℤ)) (x y : ℕ → ℤ) (e : ℕ) → x e ≡ y e → entry κ g op a x e ≡ entry κ g op a y e
@@ -54,5 +54,5 @@ entry-cong κ g (load l) (accepted r) x y e h = refl
 entry-cong κ g (emission i j q) (accepted r) x y e h = ap (λ z. z +ℤ only (eqb (element g i j) e) (pos q)) h
 entry-cong κ g (withdrawal i j q) (accepted r) x y e h = ap (λ z. z -ℤ only (eqb (element g i j) e) (pos q)) h
 entry-cong κ g (step l) (accepted r) x y e h =
-  let f : ℕ → ℤ = λ i. getD r i (pos 0) in
-  carried-sum g f x (faces g) e ∙ ap (λ z. z +ℤ sumℤ (faces g) (moved g f e)) h ∙ sym (carried-sum g f y (faces g) e)
+    let f : ℕ → ℤ = λ i. getD r i (pos 0) in
+    carried-sum g f x (faces g) e ∙ ap (λ z. z +ℤ sumℤ (faces g) (moved g f e)) h ∙ sym (carried-sum g f y (faces g) e)

@@ -41,24 +41,35 @@ module _ (κ : Kind) (v : ℕ → ℕ) (t : ℕ) where
 -- ---- levelling leaves the weighted sum above T less the weights' sum, and truncation only adds
 adjusted-node : (w : ℕ) (x l : ℤ) → w * positive x + w * positive l ≤ w * positive (x +ℤ l) + (w * negative x + w * negative l)
 adjusted-node w x l =
-  let c : positive x + positive l ≤ positive (x +ℤ l) + (negative x + negative l) = omega (arith, add-parts x l) in
-  omega (arith, mul-le-mul-left w c, mul-add w (positive x) (positive l), mul-add w (positive (x +ℤ l)) (negative x + negative l), mul-add w (negative x) (negative l))
+    let c : positive x + positive l ≤ positive (x +ℤ l) + (negative x + negative l) = omega (arith, add-parts x l) in
+    omega (arith, mul-le-mul-left w c, mul-add w (positive x) (positive l), mul-add w (positive (x +ℤ l)) (negative x + negative l), mul-add w (negative x) (negative l))
 
 module _ (κ : Kind) (ψ : ℕ → ℤ) (t : ℕ) (hw : 0 < weightSum κ) where
   adjusted-near : t < weighted κ (truncated (adjusted κ ψ t)) + weightSum κ
   unfolding weighted truncated adjusted meanShift weightSum
   adjusted-near =
-    let n = κ .nodes in
-    let w = κ .weight in
-    let s : ℤ = sumℤ n (λ k. pos (w k) *ℤ ψ k) in
-    let l : ℤ = meanShift κ ψ t in
-    let up : ℕ → ℕ = λ k. w k * positive (ψ k) in
-    let down : ℕ → ℕ = λ k. w k * negative (ψ k) in
-    let r : ℕ → ℕ = λ k. w k * positive (ψ k +ℤ meanShift κ ψ t) in
-    let le = sum-le n (λ k. up k + w k * positive l) (λ k. r k + (down k + w k * negative l)) (λ k _. adjusted-node (w k) (ψ k) l) in
-    omega (arith, le, sum-add n up (λ k. w k * positive l), sum-add n r (λ k. down k + w k * negative l), sum-add n down (λ k. w k * negative l),
-      sum-mul-right n (positive l) w, sum-mul-right n (negative l) w, weighted-parts n w ψ, sub-parts-of (pos t) s, positive-pos t, negative-pos t,
-      floor-above (pos t -ℤ s) (sum n w) hw)
+      let n = κ .nodes in
+      let w = κ .weight in
+      let s : ℤ = sumℤ n (λ k. pos (w k) *ℤ ψ k) in
+      let l : ℤ = meanShift κ ψ t in
+      let up : ℕ → ℕ = λ k. w k * positive (ψ k) in
+      let down : ℕ → ℕ = λ k. w k * negative (ψ k) in
+      let r : ℕ → ℕ = λ k. w k * positive (ψ k +ℤ meanShift κ ψ t) in
+      let le = sum-le n (λ k. up k + w k * positive l) (λ k. r k + (down k + w k * negative l)) (λ k _. adjusted-node (w k) (ψ k) l) in
+      omega (
+        arith,
+        le,
+        sum-add n up (λ k. w k * positive l),
+        sum-add n r (λ k. down k + w k * negative l),
+        sum-add n down (λ k. w k * negative l),
+        sum-mul-right n (positive l) w,
+        sum-mul-right n (negative l) w,
+        weighted-parts n w ψ,
+        sub-parts-of (pos t) s,
+        positive-pos t,
+        negative-pos t,
+        floor-above (pos t -ℤ s) (sum n w) hw,
+      )
 
   -- with levelling the remainder is below the weights' sum, whatever ψ and T are
   pub levelled-remainder : closingRemainder κ (truncated (adjusted κ ψ t)) t < weightSum κ
@@ -85,7 +96,7 @@ module _ (κ : Kind) (ψ : ℕ → ℤ) (t : ℕ) where
   pub closed-value : (k : ℕ) → k < κ .nodes → getD (closedUnlevelled κ ψ t) k 0 ≡ values k
   unfolding closedUnlevelled
   closed-value k h = List·getD-append (table (κ .nodes) values) (closingRemainder κ (truncated ψ) t ∷ []) 0 k (omega (arith, length-table (κ .nodes) values))
-    ∙ getD-table (κ .nodes) values k 0 h
+      ∙ getD-table (κ .nodes) values k 0 h
 
   pub closed-remainder : getD (closedUnlevelled κ ψ t) (κ .nodes) 0 ≡ closingRemainder κ (truncated ψ) t
   unfolding closedUnlevelled
@@ -94,5 +105,9 @@ module _ (κ : Kind) (ψ : ℕ → ℤ) (t : ℕ) where
   -- the list holds T
   pub closed-holds : weighted κ (λ k. getD (closedUnlevelled κ ψ t) k 0) + getD (closedUnlevelled κ ψ t) (κ .nodes) 0 ≡ t
   unfolding weighted
-  closed-holds = omega (arith, closed-remainder, closing-sum κ (truncated ψ) t,
-    sum-cong (κ .nodes) (λ k. κ .weight k * getD (closedUnlevelled κ ψ t) k 0) (λ k. κ .weight k * values k) (λ k h. ap (λ x. κ .weight k * x) (closed-value k h)))
+  closed-holds = omega (
+    arith,
+    closed-remainder,
+    closing-sum κ (truncated ψ) t,
+    sum-cong (κ .nodes) (λ k. κ .weight k * getD (closedUnlevelled κ ψ t) k 0) (λ k. κ .weight k * values k) (λ k h. ap (λ x. κ .weight k * x) (closed-value k h)),
+  )

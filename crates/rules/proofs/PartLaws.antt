@@ -112,7 +112,7 @@ module _ (κ : Kind) (g : Shape) (numbers : List ℕ) where
   unfolding held weighted
   held-laid e = ap₂ _+_ (sum-cong (κ .nodes) (λ k. κ .weight k * getD (laid e) k 0) (λ k. κ .weight k * loadedValue κ g numbers e k)
       (λ k h. ap (λ y. κ .weight k * y) (List·getD-append (table (κ .nodes) (loadedValue κ g numbers e)) (0 ∷ []) 0 k (omega (arith, length-table (κ .nodes) (loadedValue κ g numbers e)))
-        ∙ getD-table (κ .nodes) (loadedValue κ g numbers e) k 0 h))) (laid-remainder e) ∙ add-zero (sum (κ .nodes) (λ k. κ .weight k * loadedValue κ g numbers e k))
+      ∙ getD-table (κ .nodes) (loadedValue κ g numbers e) k 0 h))) (laid-remainder e) ∙ add-zero (sum (κ .nodes) (λ k. κ .weight k * loadedValue κ g numbers e k))
 
   pub length-loaded : length (loaded κ g numbers) ≡ tracerLength κ g
   unfolding loaded tracerLength
@@ -153,4 +153,4 @@ module _ (κ : Kind) (g : Shape) (p : List ℕ) where
 pub part-length : (κ : Kind) (g : Shape) (s : ℕ) (field : List ℕ) → s < g .tracers → fieldLength κ g ≤ length field → length (part κ g s field) ≡ tracerLength κ g
 unfolding part fieldLength
 part-length κ g s field h r = length-take-le (tracerLength κ g) (drop (s * tracerLength κ g) field)
-  (omega (arith, length-drop (s * tracerLength κ g) field, part-room (tracerLength κ g) h))
+    (omega (arith, length-drop (s * tracerLength κ g) field, part-room (tracerLength κ g) h))

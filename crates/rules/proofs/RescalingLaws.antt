@@ -14,12 +14,12 @@ use Rattle.rules.specs.Limiter.{rescaled}
 pub rescaled-kept : (p t v : ℕ) → p ≤ t → rescaled p t v ≡ v
 unfolding rescaled
 rescaled-kept p t v h = cond-ind (leb p t) v (v * t / p) (λ x. x ≡ v) (λ _. refl)
-  (λ f. let k : t < p = nleb→lt p t f in let z : ⊥ = omega arith in absurd z)
+    (λ f. let k : t < p = nleb→lt p t f in let z : ⊥ = omega arith in absurd z)
 
 pub rescaled-cut : (p t v : ℕ) → t < p → rescaled p t v ≡ v * t / p
 unfolding rescaled
 rescaled-cut p t v h = cond-ind (leb p t) v (v * t / p) (λ x. x ≡ v * t / p)
-  (λ f. let k : p ≤ t = leb→le p t f in let z : ⊥ = omega arith in absurd z) (λ _. refl)
+    (λ f. let k : p ≤ t = leb→le p t f in let z : ⊥ = omega arith in absurd z) (λ _. refl)
 
 -- w times the floor of v t / p, times p, is w v t but for less than w p
 swap : (p t v w : ℕ) → t * (w * v) ≡ w * (v * t)
@@ -32,8 +32,16 @@ term-low p t v w = omega (arith, mul-left-comm p w (v * t / p), swap p t v w, mu
     floor-le = omega (arith, div-add-mod (v * t) p)
 
 term-high : (p t v w : ℕ) → 0 < p → t * (w * v) + w ≤ p * (w * (v * t / p)) + p * w
-term-high p t v w h = omega (arith, mul-left-comm p w (v * t / p), swap p t v w, mul-le-mul-left w floor-lt,
-    mul-add w (v * t) 1, mul-add w (p * (v * t / p)) p, mul-one w, mul-comm w p)
+term-high p t v w h = omega (
+  arith,
+  mul-left-comm p w (v * t / p),
+  swap p t v w,
+  mul-le-mul-left w floor-lt,
+  mul-add w (v * t) 1,
+  mul-add w (p * (v * t / p)) p,
+  mul-one w,
+  mul-comm w p,
+)
   where
     floor-lt : v * t + 1 ≤ p * (v * t / p) + p
     floor-lt = omega (arith, div-add-mod (v * t) p, mod-lt (v * t) h)
@@ -57,16 +65,26 @@ module _ (n : ℕ) (w v : ℕ → ℕ) (t : ℕ) where
 
   cut-le : t < before → rescaledSum ≤ t
   cut-le h =
-    let p0 : 0 < before = omega arith in
-    let le = sum-le n (λ k. before * floors k) (λ k. t * (w k * v k)) (λ k _. term-low before t (v k) (w k)) in
-    le-of-mul-le-mul-left {k = before} (omega (arith, le, ap (λ x. before * x) (lessened h), sum-mul n before floors, sum-mul n t (λ k. w k * v k), mul-comm t before)) p0
+      let p0 : 0 < before = omega arith in
+      let le = sum-le n (λ k. before * floors k) (λ k. t * (w k * v k)) (λ k _. term-low before t (v k) (w k)) in
+      le-of-mul-le-mul-left {k = before} (omega (arith, le, ap (λ x. before * x) (lessened h), sum-mul n before floors, sum-mul n t (λ k. w k * v k), mul-comm t before)) p0
 
   cut-near : t < before → 0 < sum n w → t < rescaledSum + sum n w
   cut-near h hw =
-    let p0 : 0 < before = omega arith in
-    let le = sum-le n (λ k. t * (w k * v k) + w k) (λ k. before * floors k + before * w k) (λ k _. term-high before t (v k) (w k) p0) in
-    lt-of-mul-lt-mul-left before (omega (arith, le, ap (λ x. before * x) (lessened h), sum-mul n before floors, sum-mul n t (λ k. w k * v k), sum-mul n before w,
-      mul-comm t before, mul-add before rescaledSum (sum n w), sum-add n (λ k. t * (w k * v k)) w, sum-add n (λ k. before * floors k) (λ k. before * w k)))
+      let p0 : 0 < before = omega arith in
+      let le = sum-le n (λ k. t * (w k * v k) + w k) (λ k. before * floors k + before * w k) (λ k _. term-high before t (v k) (w k) p0) in
+      lt-of-mul-lt-mul-left before (omega (
+        arith,
+        le,
+        ap (λ x. before * x) (lessened h),
+        sum-mul n before floors,
+        sum-mul n t (λ k. w k * v k),
+        sum-mul n before w,
+        mul-comm t before,
+        mul-add before rescaledSum (sum n w),
+        sum-add n (λ k. t * (w k * v k)) w,
+        sum-add n (λ k. before * floors k) (λ k. before * w k),
+      ))
 
   -- what is left is at most t
   pub rescaled-le : rescaledSum ≤ t

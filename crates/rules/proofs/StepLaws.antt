@@ -78,12 +78,12 @@ module _ (κ : Kind) (g : Shape) (hx : 0 < g .nx) (hy : 0 < g .ny) (c : ℕ → 
   moved-same : (e : ℕ) → sumℤ (faces g) (moved g r e) ≡ sumℤ (faces g) (moved g (limited g (mass κ p) fluxes) e)
   unfolding moved
   moved-same e = sumℤ-cong (faces g) (moved g r e) (moved g (limited g (mass κ p) fluxes) e)
-    (λ f l. ap (λ x. only (eqb (ahead g f) e) x -ℤ only (eqb (behind g f) e) x) (report-is f l))
+      (λ f l. ap (λ x. only (eqb (ahead g f) e) x -ℤ only (eqb (behind g f) e) x) (report-is f l))
 
   -- the target of the report is not below 0
   pub goal-above : (e : ℕ) → e < elements g → negative (target g (mass κ p) r e) ≡ 0
   goal-above e h = ap negative (sym (target-is g hx hy (mass κ p) r e h) ∙ ap (λ x. pos (mass κ p e) +ℤ x) (moved-same e) ∙ target-is g hx hy (mass κ p) (limited g (mass κ p) fluxes) e h)
-    ∙ target-negative g (mass κ p) fluxes hx hy e h
+      ∙ target-negative g (mass κ p) fluxes hx hy e h
 
   abbrev goal : ℕ → ℕ
   goal e = positive (target g (mass κ p) r e)
@@ -102,17 +102,17 @@ module _ (κ : Kind) (g : Shape) (hx : 0 < g .nx) (hy : 0 < g .ny) (c : ℕ → 
   remainder-after : 0 < weightSum κ → (e : ℕ) → e < elements g → remainder κ after e < weightSum κ
   unfolding finish
   remainder-after hw e h = subst (λ x. x < weightSum κ) (sym (remainder-blocks κ (elements g) (λ e. closed κ (s .ψ e) (goal e)) (λ e. length-closed κ (s .ψ e) (goal e)) e h))
-    (remainder-closed κ (s .ψ e) (goal e) hw)
+      (remainder-closed κ (s .ψ e) (goal e) hw)
 
   -- the ledger, going through the report, agrees
   pub books-after : (e : ℕ) → e < elements g → carried g r (faces g) (λ e. pos (mass κ p e)) e ≡ pos (mass κ after e)
   books-after e h = carried-sum g r (λ e. pos (mass κ p e)) (faces g) e ∙ target-is g hx hy (mass κ p) r e h
-    ∙ sym (pos-positive (target g (mass κ p) r e) (goal-above e h)) ∙ ap pos (sym (mass-after e h))
+      ∙ sym (pos-positive (target g (mass κ p) r e) (goal-above e h)) ∙ ap pos (sym (mass-after e h))
 
   -- and a step keeps the total
   pub total-after : total κ g after ≡ total κ g p
   total-after = pos-injective (total-by κ g after (carried g r (faces g) (λ e. pos (mass κ p e))) books-after
-    ∙ carried-keeps g hx hy r (λ e. pos (mass κ p e)) (faces g) (le-refl (faces g)) ∙ total-pos κ g p)
+      ∙ carried-keeps g hx hy r (λ e. pos (mass κ p e)) (faces g) (le-refl (faces g)) ∙ total-pos κ g p)
 
   pub good-after : 0 < weightSum κ → total κ g p ≤ limit → Good κ g after
   good-after hw b = record { size = length-after; small = remainder-after hw; bounded = subst (λ x. x ≤ limit) (sym total-after) b }

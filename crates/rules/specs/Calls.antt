@@ -23,6 +23,11 @@ windInRange c = leb (natAbs c) 1024
 abbrev pub windAt : List ℤ → ℕ → ℤ
 windAt w f = getD w f (pos 0)
 
+-- 5, of "any stored one"
+unfoldable pub windSound : Shape → List ℤ → Bool
+unfolding all
+windSound g w = all (faces g) (λ f. windInRange (windAt w f))
+
 -- ---- calls on a tracer
 -- An operation on one tracer. A step also takes what it is lent beside the field (A).
 pub data Operation (A : Type 0) : Type 0 where
@@ -90,13 +95,13 @@ module _ (κ : Kind) (g : Shape) where
 
   -- 5 to 10, for the part p of a tracer that is there or not
   unfoldable pub checks : Operation Lent → Bool → List ℕ → List Check
-  unfolding loaded total soundIfThere mass
+  unfolding loaded total soundIfThere mass windSound
   checks (load numbers) there p = check 7 there ∷ check 9 (leb (total κ g (loaded numbers)) limit) ∷ []
   checks (emission i j q) there p =
       check 6 (soundIfThere there p) ∷ check 7 there ∷ check 8 (onGrid g i j) ∷ check 9 (leb (total κ g p + q) limit) ∷ []
   checks (withdrawal i j q) there p =
       check 6 (soundIfThere there p) ∷ check 7 there ∷ check 8 (onGrid g i j) ∷ check 10 (leb q (mass κ p (element g i j))) ∷ []
-  checks (step l) there p = check 5 (all (faces g) (λ f. windInRange (windAt (l .wind) f))) ∷ check 6 (soundIfThere there p) ∷ check 7 there ∷ []
+  checks (step l) there p = check 5 (windSound g (l .wind)) ∷ check 6 (soundIfThere there p) ∷ check 7 there ∷ []
 
   -- a call on tracer s
   unfoldable pub call : ℕ → Operation Lent → List ℕ → Called
@@ -114,7 +119,7 @@ module _ (κ : Kind) (g : Shape) where
       let there = ltb s (g .tracers) in
       let p = part κ g s field in
       answer (check 2 (admitted g) ∷ check 4 (leb (fieldLength κ g) (length field)) ∷ check 6 (soundIfThere there p) ∷ check 7 there ∷ check 8 (onGrid g i j) ∷ [])
-        (mass κ p (element g i j))
+      (mass κ p (element g i j))
 
   unfoldable pub totalReading : ℕ → List ℕ → Answer ℕ
   unfolding answer admitted fieldLength soundIfThere part total
@@ -132,6 +137,18 @@ module _ (κ : Kind) (g : Shape) where
   unfolding overwrite fieldLength
   zeroField field = overwrite 0 (replicate (fieldLength κ g) 0) field
 
+  unfoldable pub zeroWind : List ℤ → List ℤ
+  unfolding overwrite
+  zeroWind wind = overwrite 0 (replicate (faces g) (pos 0)) wind
+
+  unfoldable pub freshField : List ℕ → List ℤ → List ℕ
+  unfolding freshReply zeroField after
+  freshField field wind = after (freshReply field wind) (zeroField field) field
+
+  unfoldable pub freshWind : List ℕ → List ℤ → List ℤ
+  unfolding freshReply zeroWind after
+  freshWind field wind = after (freshReply field wind) (zeroWind wind) wind
+
 -- the report buffer after a call: the report written over its front, "Surplus is left alone"
 unfoldable pub reportAfter : Answer (List ℤ) → List ℤ → List ℤ
 unfolding overwrite
@@ -139,10 +156,6 @@ reportAfter (accepted r) old = overwrite 0 r old
 reportAfter (refused n) old = old
 
 module _ (g : Shape) where
-  unfoldable pub zeroWind : List ℤ → List ℤ
-  unfolding overwrite
-  zeroWind wind = overwrite 0 (replicate (faces g) (pos 0)) wind
-
   -- "Wind: one face (east or north, i, j) gets a new C."
   unfoldable pub windReply : Face → List ℤ → Answer (Unit {0})
   unfolding answer admitted

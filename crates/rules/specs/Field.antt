@@ -68,16 +68,16 @@ E q a = getD (negsuc 2 ∷ pos 4 ∷ negsuc 0 ∷ negsuc 0 ∷ pos 0 ∷ pos 1 �
 
 -- the quadratic element: "Node weight ωaωb"; "c0 = 2Cw, c1 = Cw + Ce, c2 = 2Ce"
 unfoldable pub quadratic : Kind
-quadratic = record
-    { nodes = 9
-    ; weight = λ k. ω (k % 3) * ω (k / 3)
-    ; side = 3
-    ; lineWeight = ω
-    ; derivative = E
-    ; westShare = λ q. getD (2 ∷ 1 ∷ 0 ∷ []) q 0
-    ; edgeFactor = 12
-    ; faceDivisor = 4096
-    }
+quadratic = record {
+  nodes = 9;
+  weight = λ k. ω (k % 3) * ω (k / 3);
+  side = 3;
+  lineWeight = ω;
+  derivative = E;
+  westShare = λ q. getD (2 ∷ 1 ∷ 0 ∷ []) q 0;
+  edgeFactor = 12;
+  faceDivisor = 4096;
+}
 
 -- "the nine weights sum to 36"
 unfoldable pub weightSum : Kind → ℕ

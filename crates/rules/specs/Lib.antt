@@ -8,3 +8,4 @@ pub mod Correction
 pub mod Step
 pub mod Calls
 pub mod Ledger
+pub mod FieldFile

@@ -27,8 +27,8 @@ module _ (κ : Kind) (g : Shape) (c : ℕ → ℤ) (φ : ℕ → ℕ → ℤ) wh
   unfoldable pub upwind : ℕ → ℕ → ℤ
   unfolding behind ahead
   upwind f r = cond (nonNeg (c f))
-    (φ (behind g f) (cond (looksEast g f) (node κ (lastPlace κ) r) (node κ r (lastPlace κ))))
-    (φ (ahead g f) (cond (looksEast g f) (node κ 0 r) (node κ r 0)))
+      (φ (behind g f) (cond (looksEast g f) (node κ (lastPlace κ) r) (node κ r (lastPlace κ))))
+      (φ (ahead g f) (cond (looksEast g f) (node κ 0 r) (node κ r 0)))
 
 -- the wind at place q between the winds of a west and an east face: "c0 = 2Cw, c1 = Cw + Ce, c2 = 2Ce"
 unfoldable pub placeWind : Kind → ℤ → ℤ → ℕ → ℤ
@@ -53,15 +53,15 @@ module _ (κ : Kind) (g : Shape) (c : ℕ → ℤ) (φ : ℕ → ℕ → ℤ) wh
   unfoldable pub alongY : ℕ → ℕ → ℕ → ℤ
   unfolding advection upwind south
   alongY e a b = advection κ (λ q. φ e (node κ a q)) (c (northFace g (south g e))) (c (northFace g e))
-    (upwind κ g c φ (northFace g (south g e)) a) (upwind κ g c φ (northFace g e) a) b
+      (upwind κ g c φ (northFace g (south g e)) a) (upwind κ g c φ (northFace g e) a) b
 
   -- "t(a, b) = floor((ωb·X + ωa·Y) / (8192·ωaωb))", at node k of element e
   unfoldable pub tendency : ℕ → ℕ → ℤ
   unfolding alongX alongY
   tendency e k =
-    let a = k % κ .side in
-    let b = k / κ .side in
-    floorDiv (pos (κ .lineWeight b) *ℤ alongX e a b +ℤ pos (κ .lineWeight a) *ℤ alongY e a b) (8192 * (κ .lineWeight a * κ .lineWeight b))
+      let a = k % κ .side in
+      let b = k / κ .side in
+      floorDiv (pos (κ .lineWeight b) *ℤ alongX e a b +ℤ pos (κ .lineWeight a) *ℤ alongY e a b) (8192 * (κ .lineWeight a * κ .lineWeight b))
 
 -- a function of an element and a node, computed once for n elements
 unfoldable pub tabulated : Kind → ℕ → (ℕ → ℕ → ℤ) → ℕ → ℕ → ℤ

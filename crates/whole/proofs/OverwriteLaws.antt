@@ -54,8 +54,8 @@ module _ {ℓ} {A : Type ℓ} (w s : ℕ) (ys xs : List A) (width : length ys �
       go : Dec (s′ < s) → getD (overwrite (s * w) ys xs) (s′ * w + k) d ≡ getD xs (s′ * w + k) d
       go (yes l) = overwrite-below (s * w) ys xs room-ys d (s′ * w + k) (omega (arith, part-room w {s = s′} {n = s} l))
       go (no l) =
-        let e : s′ * w + k ≡ s * w + (length ys + (s′ * w + k - (s * w + w))) = omega (arith, ne, part-room w {s = s} {n = s′} (omega (arith, ne))) in
-        ap (λ x. getD (overwrite (s * w) ys xs) x d) e ∙ overwrite-above (s * w) ys xs room-ys d (s′ * w + k - (s * w + w)) ∙ ap (λ x. getD xs x d) (sym e)
+          let e : s′ * w + k ≡ s * w + (length ys + (s′ * w + k - (s * w + w))) = omega (arith, ne, part-room w {s = s} {n = s′} (omega (arith, ne))) in
+          ap (λ x. getD (overwrite (s * w) ys xs) x d) e ∙ overwrite-above (s * w) ys xs room-ys d (s′ * w + k - (s * w + w)) ∙ ap (λ x. getD xs x d) (sym e)
 
   pub part-same : take w (drop (s * w) (overwrite (s * w) ys xs)) ≡ ys
   unfolding overwrite
@@ -65,9 +65,10 @@ module _ {ℓ} {A : Type ℓ} (w s : ℕ) (ys xs : List A) (width : length ys �
   part-other d s′ ne = ext-getD d (take w (drop (s′ * w) new)) (take w (drop (s′ * w) xs))
       (length-take w (drop (s′ * w) new) ∙ ap (min w) (length-drop (s′ * w) new ∙ ap (λ x. x - s′ * w) length-replaced ∙ sym (length-drop (s′ * w) xs)) ∙ sym (length-take w (drop (s′ * w) xs)))
       (λ i h. let k : i < w = omega (arith, length-take w (drop (s′ * w) new)) in
-        read new i k ∙ number-other d s′ i ne k ∙ sym (read xs i k))
+      read new i k ∙ number-other d s′ i ne k ∙ sym (read xs i k))
     where
       new : List A
       new = overwrite (s * w) ys xs
+
       read : (l : List A) (i : ℕ) → i < w → getD (take w (drop (s′ * w) l)) i d ≡ getD l (s′ * w + i) d
       read l i k = getD-take w (drop (s′ * w) l) i d k ∙ getD-drop (s′ * w) l i d

@@ -122,13 +122,13 @@ abbrev pub e-neg-suc : (k : ℕ) → Exact (negsuc k) (negsuc k)
 e-neg-suc k = record { size = suc k; small = within-neg-suc k; good = true; same = λ t. refl }
 
 abbrev pub e-back : (w : Width) (r z : ℤ) → Exact r z → Exact (toZ w (ofZ w r)) z
-e-back w r z p = record
-    { size = p .size
-    ; small = within-back w r (p .small)
-    ; good = p .good && ltb (p .size) (2 ^ hbits w)
-    ; same = λ t. let y = and-yes (p .good) (ltb (p .size) (2 ^ hbits w)) t in
-        toZ-ofZ (fits (record { size = p .size; small = p .small }) (y .1)) ∙ p .same (y .0)
-    }
+e-back w r z p = record {
+  size = p .size;
+  small = within-back w r (p .small);
+  good = p .good && ltb (p .size) (2 ^ hbits w);
+  same = λ t. let y = and-yes (p .good) (ltb (p .size) (2 ^ hbits w)) t in
+      toZ-ofZ (fits (record { size = p .size; small = p .small }) (y .1)) ∙ p .same (y .0);
+}
 
 -- two operands, each exact
 pub both-same : {A : Type 0} (f : ℤ → ℤ → A) {r s a b : ℤ} (p : Exact r a) (q : Exact s b) → T (p .good && q .good) → f r s ≡ f a b

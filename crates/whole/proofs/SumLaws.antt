@@ -85,6 +85,7 @@ sumℤ-single (suc n) f k h z = go (λ l. sumℤ-single n f k l (λ i l. z i (om
   where
     bad : n ≡ k → (i : ℕ) → i < n → i ≡ k → ⊥
     bad e i l q = omega arith
+
     go : (k < n → sumℤ n f ≡ f k) → Dec (n ≡ k) → sumℤ n f +ℤ f n ≡ f k
     go ih (yes e) = ap (λ x. x +ℤ f n) (sumℤ-zero n f (λ i l. z i (omega arith) (bad e i l))) ∙ +ℤ-idl (f n) ∙ ap f e
     go ih (no ne) = ap₂ _+ℤ_ (ih (omega (arith, ne))) (z n (omega arith) ne) ∙ +ℤ-idr (f k)
@@ -113,7 +114,10 @@ sum-split m n f = pos-injective (sym (sum-pos (m + n) f) ∙ sumℤ-split m n (�
 
 -- the two parts of a sum with natural weights
 pub weighted-parts : (n : ℕ) (w : ℕ → ℕ) (f : ℕ → ℤ)
-  → positive (sumℤ n (λ k. pos (w k) *ℤ f k)) + sum n (λ k. w k * negative (f k)) ≡ negative (sumℤ n (λ k. pos (w k) *ℤ f k)) + sum n (λ k. w k * positive (f k))
-weighted-parts n w f = omega (arith, sumℤ-parts n (λ k. pos (w k) *ℤ f k),
-    sum-cong n (λ k. positive (pos (w k) *ℤ f k)) (λ k. w k * positive (f k)) (λ k _. positive-mul (w k) (f k)),
-    sum-cong n (λ k. negative (pos (w k) *ℤ f k)) (λ k. w k * negative (f k)) (λ k _. negative-mul (w k) (f k)))
+    → positive (sumℤ n (λ k. pos (w k) *ℤ f k)) + sum n (λ k. w k * negative (f k)) ≡ negative (sumℤ n (λ k. pos (w k) *ℤ f k)) + sum n (λ k. w k * positive (f k))
+weighted-parts n w f = omega (
+  arith,
+  sumℤ-parts n (λ k. pos (w k) *ℤ f k),
+  sum-cong n (λ k. positive (pos (w k) *ℤ f k)) (λ k. w k * positive (f k)) (λ k _. positive-mul (w k) (f k)),
+  sum-cong n (λ k. negative (pos (w k) *ℤ f k)) (λ k. w k * negative (f k)) (λ k _. negative-mul (w k) (f k)),
+)

@@ -39,17 +39,18 @@ module _ {ℓ} {A : Type ℓ} where
       where
         here : getD (blocks n f ++ f n) (n * w + k) d ≡ getD (f n) k d
         here = ap (λ x. getD (blocks n f ++ f n) (x + k) d) (sym (length-blocks n)) ∙ getD-append-add (blocks n f) (f n) k d
+
         go : Dec (e ≡ n) → (e < n → getD (blocks n f) (e * w + k) d ≡ getD (f e) k d) → getD (blocks n f ++ f n) (e * w + k) d ≡ getD (f e) k d
         go (yes q) ih = ap (λ x. getD (blocks n f ++ f n) (x * w + k) d) q ∙ here ∙ ap (λ x. getD (f x) k d) (sym q)
         go (no ne) ih = let l : e < n = omega (arith, ne) in
-          List·getD-append (blocks n f) (f n) d (e * w + k) (omega (arith, digits-lt l hk, length-blocks n)) ∙ ih l
+            List·getD-append (blocks n f) (f n) d (e * w + k) (omega (arith, digits-lt l hk, length-blocks n)) ∙ ih l
 
   pub length-table : (n : ℕ) (f : ℕ → A) → length (table n f) ≡ n
   length-table n f = ap length (table-blocks n f) ∙ length-blocks 1 (λ i. f i ∷ []) (λ e. refl) n ∙ mul-one n
 
   pub getD-table : (n : ℕ) (f : ℕ → A) (i : ℕ) (d : A) → i < n → getD (table n f) i d ≡ f i
   getD-table n f i d h = ap (λ l. getD l i d) (table-blocks n f) ∙ ap (λ x. getD (blocks n (λ i. f i ∷ [])) x d) (sym (add-zero (i * 1) ∙ mul-one i))
-    ∙ getD-blocks 1 (λ i. f i ∷ []) (λ e. refl) n i 0 d h (omega arith)
+      ∙ getD-blocks 1 (λ i. f i ∷ []) (λ e. refl) n i 0 d h (omega arith)
 
   pub table-cong : (n : ℕ) (f g : ℕ → A) → ((i : ℕ) → i < n → f i ≡ g i) → table n f ≡ table n g
   unfolding table
