@@ -1,6 +1,6 @@
 -- An answer from checks: refused, or accepted with every check passed.
 use mathlib.Core.Path.{_≡_}
-use mathlib.Core.Bool.{Bool, true, false, _&&_, cond}
+use mathlib.Core.Bool.{Bool, true, false, cond}
 use mathlib.Core.List.{List, [], _∷_}
 use Prim.Native.Nat.{ℕ}
 use lib.Dec.{T}
@@ -19,7 +19,3 @@ answer-ind P (c ∷ cs) x no′ yes′ = go (c .passes) (λ t. answer-ind P cs x
     go : (b : Bool) → (T b → P (answer cs x)) → P (cond b (answer cs x) (refused (c .number)))
     go true f = f tt
     go false f = no′ (c .number)
-
-pub both-yes : (a b : Bool) → T (a && b) → T a × T b
-both-yes true b t = (tt, t)
-both-yes false b t = absurd t

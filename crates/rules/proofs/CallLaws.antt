@@ -12,7 +12,7 @@ use lib.IntN.{ℤ, pos, _+ℤ_, _-ℤ_, +ℤ-idr}
 use lib.ListN.{length, getD}
 use Rattle.whole.specs.Parts.{positive, negative}
 use Rattle.whole.specs.Sum.{sumℤ}
-use Rattle.whole.proofs.Cases.{either, neqb→ne}
+use Rattle.whole.proofs.Cases.{both-yes, either, neqb→ne}
 use Rattle.whole.proofs.WholeLaws.{positive-pos, negative-pos, add-parts, sub-parts-of, eq-parts, pos-injective}
 use Rattle.rules.specs.declared.Shape.{Shape}
 use Rattle.rules.specs.Answers.{Answer, accepted, refused}
@@ -22,7 +22,7 @@ use Rattle.rules.specs.Stages.{stages}
 use Rattle.rules.specs.Step.{Stepped, tracerStep, report, finish}
 use Rattle.rules.specs.Calls.{Operation, load, emission, withdrawal, step, Lent, windAt, loaded, loadedValue, withElement, emitted, withdrawn, done, checks}
 use Rattle.rules.specs.Ledger.{only, entry}
-use Rattle.rules.proofs.AnswerLaws.{Passed, both-yes}
+use Rattle.rules.proofs.AnswerLaws.{Passed}
 use Rattle.rules.proofs.LimiterLaws.{closed-length, closed-holds, closed-remainder, withdrawal-remainder, truncated-pos}
 use Rattle.rules.proofs.GridLaws.{only-yes, only-no}
 use Rattle.rules.proofs.PartLaws.{Good, held, length-withElement, mass-there, mass-elsewhere, remainder-there, remainder-elsewhere, length-loaded, mass-loaded, remainder-loaded, total-pos, total-by}

@@ -8,13 +8,14 @@ use native.Mathlib.Omega.{arith}
 use lib.Dec.{T, leb, ltb, leb→le, le→leb, ltb→lt}
 use lib.IntN.{ℤ, pos}
 use lib.ListN.{length}
+use Rattle.whole.proofs.Cases.{both-yes}
 use Rattle.whole.proofs.OverwriteLaws.{part-room, length-replaced, part-same, part-other}
 use Rattle.rules.specs.declared.Shape.{Shape}
 use Rattle.rules.specs.Answers.{Answer, accepted, refused, Check, check, answer, after}
 use Rattle.rules.specs.Field.{Kind, admitted, from1to, elements, tracerLength, fieldLength, part, withPart, weightSum}
 use Rattle.rules.specs.Step.{Stepped}
 use Rattle.rules.specs.Calls.{Operation, load, emission, withdrawal, step, Lent, lentEnough, done, checks, call}
-use Rattle.rules.proofs.AnswerLaws.{Passed, answer-ind, both-yes}
+use Rattle.rules.proofs.AnswerLaws.{Passed, answer-ind}
 use Rattle.rules.proofs.PartLaws.{part-length}
 use Rattle.rules.proofs.CallLaws.{done-length}
 

@@ -9,3 +9,4 @@ pub mod AnswerLaws
 pub mod StepLaws
 pub mod CallLaws
 pub mod FieldLaws
+pub mod StageBounds

@@ -53,6 +53,10 @@ abs-trunc : (z : ℤ) (k : ℕ) → natAbs (truncDiv z k) ≡ natAbs z / k
 abs-trunc (pos a) k = refl
 abs-trunc (negsuc a) k = abs-neg (pos (suc a / k))
 
+-- truncated by d, what is within b d is within b
+pub within-trunc-by : (z : ℤ) (d b : ℕ) → Within (b * d) z → Within b (truncDiv z d)
+within-trunc-by z d b p = record { within = rw (abs-trunc z d) (div-le-of-le-mul d (le-trans (p .within) (le-of-eq (mul-comm b d)))) }
+
 pub within-trunc : (z : ℤ) (k n : ℕ) → Within n z → Within (n / k) (truncDiv z k)
 within-trunc z k n p = record { within = rw (abs-trunc z k) (div-mono (natAbs z) n k (p .within)) }
 

@@ -1,6 +1,6 @@
 -- Case splits on a test that keep what the test says.
 use mathlib.Core.Path.{_≡_, refl, subst}
-use mathlib.Core.Bool.{Bool, true, false, not, cond}
+use mathlib.Core.Bool.{Bool, true, false, not, _&&_, cond}
 use mathlib.Core.Logic.{_≢_}
 use Prim.Native.Nat.{ℕ}
 use lib.Dec.{T, T-not, eqb, eqb→eq, eqb-refl}
@@ -34,3 +34,7 @@ neqb→ne a b t e = T-not (eqb a b) t (eqb-of e)
 
 pub ne→neqb : (a b : ℕ) → a ≢ b → T (not (eqb a b))
 ne→neqb a b h = either (eqb a b) (λ t. absurd (h (eqb→eq a b t))) (λ t. t)
+
+pub both-yes : (a b : Bool) → T (a && b) → T a × T b
+both-yes true b t = (tt, t)
+both-yes false b t = absurd t

@@ -1,14 +1,17 @@
 -- Laws of sums over a number of terms.
-use mathlib.Core.Path.{_≡_, refl, sym, ap, ap₂, _∙_}
+use mathlib.Core.Path.{_≡_, refl, sym, ap, ap₂, subst, _∙_}
+use mathlib.Core.Bool.{Bool, true, false, _&&_}
 use mathlib.Core.Logic.{_≢_}
 use Prim.Native.Nat.{ℕ, zero, suc, _+_, _*_, _≤_, _<_}
 use native.Mathlib.Nat.{mul-zero, mul-add, mul-comm, le-refl, add-zero, add-suc}
 use native.Mathlib.Decide.{ℕ-discrete}
 use native.Mathlib.Numerals.{add-one}
 use native.Mathlib.Omega.{arith}
+use lib.Dec.{T}
 use lib.IntN.{ℤ, pos, natAbs, _+ℤ_, _*ℤ_, +ℤ-idl, +ℤ-idr, +ℤ-assoc}
 use Rattle.whole.specs.Parts.{positive, negative}
-use Rattle.whole.specs.Sum.{sum, sumℤ}
+use Rattle.whole.specs.Sum.{sum, sumℤ, all}
+use Rattle.whole.proofs.Cases.{both-yes}
 use Rattle.whole.proofs.WholeLaws.{add-parts, eq-parts, abs-add, pos-injective, positive-mul, negative-mul}
 
 -- ---- sums of naturals
@@ -121,3 +124,15 @@ weighted-parts n w f = omega (
   sum-cong n (λ k. positive (pos (w k) *ℤ f k)) (λ k. w k * positive (f k)) (λ k _. positive-mul (w k) (f k)),
   sum-cong n (λ k. negative (pos (w k) *ℤ f k)) (λ k. w k * negative (f k)) (λ k _. negative-mul (w k) (f k)),
 )
+
+-- ---- a test of all indices tells of each
+pub all-at : (n : ℕ) (f : ℕ → Bool) → T (all n f) → (i : ℕ) → i < n → T (f i)
+unfolding all
+all-at zero f t i h = let c : ⊥ = omega arith in absurd c
+all-at (suc n) f t i h =
+  let b = both-yes (all n f) (f n) t in
+  go (ℕ-discrete i n) (b .1) (λ l. all-at n f (b .0) i l)
+  where
+    go : Dec (i ≡ n) → T (f n) → (i < n → T (f i)) → T (f i)
+    go (yes e) t ih = subst (λ k. T (f k)) (sym e) t
+    go (no ne) t ih = ih (omega (arith, ne))

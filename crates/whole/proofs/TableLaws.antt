@@ -1,13 +1,13 @@
 -- Laws of tables: their length, a number of theirs, and one more entry.
-use mathlib.Core.Path.{_≡_, refl, sym, ap, _∙_}
+use mathlib.Core.Path.{_≡_, refl, sym, ap, subst, _∙_}
 use mathlib.Core.List.{List, [], _∷_, _++_}
 use Prim.Native.Nat.{ℕ, zero, suc, _+_, _*_, _≤_, _<_}
 use native.Mathlib.Nat.{add-zero, mul-one, suc-mul}
-use native.Mathlib.Decide.{ℕ-discrete}
+use native.Mathlib.Decide.{ℕ-discrete, decLt}
 use native.Mathlib.Numerals.{add-one}
 use native.Mathlib.Omega.{arith}
 use lib.Arith.{digits-lt}
-use lib.ListN.{length, getD, length-append, List·getD-append}
+use lib.ListN.{length, getD, length-append, List·getD-append, List·getD-eq-default}
 use lib.Seq.{getD-append-add}
 use Rattle.whole.specs.Table.{blocks, table}
 
@@ -56,3 +56,11 @@ module _ {ℓ} {A : Type ℓ} where
   unfolding table
   table-cong zero f g h = refl
   table-cong (suc n) f g h = λ i. table-cong n f g (λ j l. h j (omega arith)) i ++ (h n (omega arith) i ∷ [])
+
+  -- a statement on every entry and on what stands for an entry that is not there
+  pub table-all : (P : A → Type 0) (n : ℕ) (f : ℕ → A) (d : A) → P d → ((i : ℕ) → i < n → P (f i)) → (i : ℕ) → P (getD (table n f) i d)
+  table-all P n f d none all′ i = go (decLt i n)
+    where
+      go : Dec (i < n) → P (getD (table n f) i d)
+      go (yes h) = subst P (sym (getD-table n f i d h)) (all′ i h)
+      go (no h) = subst P (sym (List·getD-eq-default (table n f) d (omega (arith, length-table n f)))) none
