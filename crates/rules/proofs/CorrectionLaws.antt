@@ -78,16 +78,16 @@ takes (negsuc a) n to from e = omega (
 module _ (g : Shape) (m : ℕ → ℕ) (flux : ℕ → ℤ) where
   -- the limited fluxes, by the outflows as the rules state them
   abbrev pub limited : ℕ → ℤ
-  limited = limitedFlux g m flux (outflow g flux)
+  limited = limitedFlux (donor g flux) m flux (outflow g (donor g flux) flux)
 
   abbrev size : ℕ → ℕ → ℕ
-  size e f = rescaled (outflow g flux e) (m e) (natAbs (flux f))
+  size e f = rescaled (outflow g (donor g flux) flux e) (m e) (natAbs (flux f))
 
   abs-limited : (f : ℕ) → natAbs (limited f) ≡ size (donor g flux f) f
   unfolding limitedFlux cut
   abs-limited f = abs-withSign (flux f) (size (donor g flux f) f)
 
-  outflow-weighed : (e : ℕ) → outflow g flux e ≡ sum (faces g) (λ f. one-if (eqb (donor g flux f) e) * natAbs (flux f))
+  outflow-weighed : (e : ℕ) → outflow g (donor g flux) flux e ≡ sum (faces g) (λ f. one-if (eqb (donor g flux f) e) * natAbs (flux f))
   unfolding outflow
   outflow-weighed e = sum-cong (faces g) (λ f. cond (eqb (donor g flux f) e) (natAbs (flux f)) 0) (λ f. one-if (eqb (donor g flux f) e) * natAbs (flux f))
       (λ f _. weigh (eqb (donor g flux f) e) (natAbs (flux f)))
@@ -157,7 +157,7 @@ module _ (g : Shape) (flux : ℕ → ℤ) (d : Direction g) where
 
 module _ (g : Shape) (hx : 0 < g .nx) (hy : 0 < g .ny) (flux : ℕ → ℤ) where
   pub outflow-local : (e : ℕ) → e < elements g
-      → outflow g flux e ≡ (positive (flux e) + negative (flux (west g e))) + (positive (flux (northFace g e)) + negative (flux (northFace g (south g e))))
+      → outflow g (donor g flux) flux e ≡ (positive (flux e) + negative (flux (west g e))) + (positive (flux (northFace g e)) + negative (flux (northFace g (south g e))))
   unfolding outflow
   outflow-local e h = sum-split (elements g) (elements g) (λ f. cond (eqb (donor g flux f) e) (natAbs (flux f)) 0)
       ∙ ap₂ _+_ (out-one-way g flux (eastward g hx hy) e h) (out-one-way g flux (northward g hx hy) e h)

@@ -10,3 +10,4 @@ pub mod StepLaws
 pub mod CallLaws
 pub mod FieldLaws
 pub mod StageBounds
+pub mod MarkedCases

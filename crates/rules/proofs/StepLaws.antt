@@ -61,11 +61,11 @@ module _ (κ : Kind) (g : Shape) (hx : 0 < g .nx) (hy : 0 < g .ny) (c : ℕ → 
   -- the report holds every limited flux
   pub report-is : (f : ℕ) → f < faces g → r f ≡ limited g (mass κ p) fluxes f
   unfolding report limitedFlux
-  report-is f h = getD-table (faces g) (limitedFlux g (mass κ p) fluxes outs) f (pos 0) h
-      ∙ ap (λ o. cut (fluxes f) o (mass κ p (donor g fluxes f))) (getD-table (elements g) (outflow g fluxes) (donor g fluxes f) 0 (donor-lt g hx hy fluxes f h))
+  report-is f h = getD-table (faces g) (limitedFlux (donor g fluxes) (mass κ p) fluxes outs) f (pos 0) h
+      ∙ ap (λ o. cut (fluxes f) o (mass κ p (donor g fluxes f))) (getD-table (elements g) (outflow g (donor g fluxes) fluxes) (donor g fluxes f) 0 (donor-lt g hx hy fluxes f h))
     where
       outs : ℕ → ℕ
-      outs e = getD (table (elements g) (outflow g fluxes)) e 0
+      outs e = getD (table (elements g) (outflow g (donor g fluxes) fluxes)) e 0
 
   pub report-length : length (report κ g c p s) ≡ faces g
   unfolding report

@@ -16,10 +16,9 @@ unfoldable pub donor : Shape → (ℕ → ℤ) → ℕ → ℕ
 unfolding behind ahead
 donor g flux f = cond (nonNeg (flux f)) (behind g f) (ahead g f)
 
--- "An element's Out is the sum of |G| over the faces where it is donor, each face once"
-unfoldable pub outflow : Shape → (ℕ → ℤ) → ℕ → ℕ
-unfolding donor
-outflow g flux e = sum (faces g) (λ f. cond (eqb (donor g flux f) e) (natAbs (flux f)) 0)
+-- "An element's Out is the sum of |G| over the faces where it is donor, each face once", where d f is the donor of face f
+unfoldable pub outflow : Shape → (ℕ → ℕ) → (ℕ → ℤ) → ℕ → ℕ
+outflow g d flux e = sum (faces g) (λ f. cond (eqb (d f) e) (natAbs (flux f)) 0)
 
 -- n with the sign of z
 unfoldable pub withSign : ℤ → ℕ → ℤ
@@ -31,10 +30,10 @@ unfoldable pub cut : ℤ → ℕ → ℕ → ℤ
 unfolding withSign rescaled
 cut z out m = withSign z (rescaled out m (natAbs z))
 
--- the limited flux (document 01's G*) of face f, from the donors' outflows
-unfoldable pub limitedFlux : Shape → (ℕ → ℕ) → (ℕ → ℤ) → (ℕ → ℕ) → ℕ → ℤ
-unfolding cut donor
-limitedFlux g m flux out f = cut (flux f) (out (donor g flux f)) (m (donor g flux f))
+-- the limited flux (document 01's G*) of face f: cut by its donor's outflow and mass
+unfoldable pub limitedFlux : (ℕ → ℕ) → (ℕ → ℕ) → (ℕ → ℤ) → (ℕ → ℕ) → ℕ → ℤ
+unfolding cut
+limitedFlux d m flux out f = cut (flux f) (out (d f)) (m (d f))
 
 -- "T = M − G*(east) + G*(west) − G*(north) + G*(south)"
 unfoldable pub target : Shape → (ℕ → ℕ) → (ℕ → ℤ) → ℕ → ℤ

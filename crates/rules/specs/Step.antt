@@ -9,16 +9,18 @@ use Rattle.rules.specs.declared.Shape.{Shape}
 use Rattle.rules.specs.Field.{Kind, elements, faces, mass}
 use Rattle.rules.specs.Limiter.{closed}
 use Rattle.rules.specs.Stages.{Stages, stages, flux}
-use Rattle.rules.specs.Correction.{outflow, limitedFlux, target}
+use Rattle.rules.specs.Correction.{donor, outflow, limitedFlux, target}
 
 -- the limited fluxes of all faces, the face report: "the stages run uncut and the combined amount is cut once, against M at
 -- the start"
 unfoldable pub report : Kind → Shape → (ℕ → ℤ) → List ℕ → Stages → List ℤ
-unfolding table flux outflow limitedFlux mass
+unfolding table flux donor outflow limitedFlux mass
 report κ g c p s =
     let fluxes : List ℤ = table (faces g) (flux κ g c s) in
-    let outflows : List ℕ = table (elements g) (outflow g (λ f. getD fluxes f (pos 0))) in
-    table (faces g) (limitedFlux g (mass κ p) (λ f. getD fluxes f (pos 0)) (λ e. getD outflows e 0))
+    let G : ℕ → ℤ = λ f. getD fluxes f (pos 0) in
+    let donors = donor g G in
+    let outflows : List ℕ = table (elements g) (outflow g donors G) in
+    table (faces g) (limitedFlux donors (mass κ p) G (λ e. getD outflows e 0))
 
 -- "Close with ψ and T": every element, for a report. T is not below 0.
 unfoldable pub finish : Kind → Shape → List ℕ → Stages → List ℤ → List ℕ

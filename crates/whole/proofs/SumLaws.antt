@@ -130,8 +130,8 @@ pub all-at : (n : ℕ) (f : ℕ → Bool) → T (all n f) → (i : ℕ) → i < 
 unfolding all
 all-at zero f t i h = let c : ⊥ = omega arith in absurd c
 all-at (suc n) f t i h =
-  let b = both-yes (all n f) (f n) t in
-  go (ℕ-discrete i n) (b .1) (λ l. all-at n f (b .0) i l)
+    let b = both-yes (all n f) (f n) t in
+    go (ℕ-discrete i n) (b .1) (λ l. all-at n f (b .0) i l)
   where
     go : Dec (i ≡ n) → T (f n) → (i < n → T (f i)) → T (f i)
     go (yes e) t ih = subst (λ k. T (f k)) (sym e) t
