@@ -1,30 +1,27 @@
 -- After every list of calls from a fresh field the ledger agrees with the field, and every tracer's part is good.
 use mathlib.Core.Path.{_≡_, refl, sym, ap, ap₂, _∙_, subst}
-use mathlib.Core.Bool.{Bool, cond}
-use mathlib.Core.List.{List, [], _∷_, _++_}
+use mathlib.Core.List.{List, [], _∷_}
 use mathlib.Core.Logic.{_≢_}
-use Prim.Native.Nat.{ℕ, zero, suc, _+_, _*_, _≤_, _<_}
+use Prim.Native.Nat.{ℕ, _+_, _*_, _≤_, _<_}
 use native.Mathlib.Nat.{mul-zero, zero-add}
 use native.Mathlib.Omega.{arith}
 use lib.Arith.{digits-lt}
-use lib.Dec.{T, eqb, eqb→eq}
+use lib.Dec.{eqb, eqb→eq}
 use lib.IntN.{ℤ, pos}
-use lib.ListN.{length, getD, replicate, take, drop, length-append, length-replicate, length-drop, getD-replicate, List·getD-append}
+use lib.ListN.{length, getD, replicate, drop, length-replicate, getD-replicate}
 use lib.Seq.{getD-take, getD-drop}
-use Rattle.whole.specs.Sum.{sum}
-use Rattle.whole.specs.Table.{overwrite}
-use Rattle.whole.proofs.Cases.{cond-ind, cond-yes, cond-no, cond-same, either, eqb-of, neqb→ne, ne→neqb}
+use Rattle.whole.proofs.Cases.{cond-yes, cond-no, cond-same, either, neqb→ne}
 use Rattle.whole.proofs.SumLaws.{sum-zero}
 use Rattle.whole.proofs.OverwriteLaws.{part-room, length-overwrite, overwrite-inside, length-replaced, part-same, part-other}
 use Rattle.rules.specs.declared.Shape.{Shape}
 use Rattle.rules.specs.Answers.{Answer, accepted, refused}
-use Rattle.rules.specs.Field.{Kind, elements, elementLength, tracerLength, fieldLength, part, withPart, cell, remainder, weighted, mass, total, limit, weightSum}
+use Rattle.rules.specs.Field.{Kind, elements, elementLength, tracerLength, fieldLength, part, withPart, cell, remainder, weighted, mass, total, weightSum}
 use Rattle.rules.specs.Calls.{Operation, load, emission, withdrawal, step, Lent, call, done, zeroField}
 use Rattle.rules.specs.Ledger.{entry}
 use Rattle.rules.proofs.PartLaws.{Good, part-length}
 use Rattle.rules.proofs.LedgerLaws.{entry-cong}
 use Rattle.rules.proofs.CallLaws.{Kept, operation-law}
-use Rattle.rules.proofs.FieldLaws.{Accepted, call-ind, call-length, call-other}
+use Rattle.rules.proofs.FieldLaws.{Accepted, call-ind}
 use Rattle.ledger.specs.Lists.{Call, windCall, on, State, Buffers, fresh, lend, perform, run, line, ledgerFrom, ledger}
 
 module _ (κ : Kind) (g : Shape) where

@@ -2,10 +2,9 @@
 use mathlib.Core.Path.{_≡_, refl, sym, ap, ap₂, _∙_, subst}
 use mathlib.Core.Bool.{Bool, true, false, not, cond}
 use mathlib.Core.List.{List, [], _∷_}
-use mathlib.Core.Logic.{_≢_}
-use Prim.Native.Nat.{ℕ, _≤_, _<_}
-use lib.Dec.{T, eqb, eqb→eq}
-use lib.IntN.{ℤ, pos}
+use Prim.Native.Nat.{ℕ, _≤_}
+use lib.Dec.{T, eqb→eq}
+use lib.IntN.{ℤ}
 use lib.ListN.{length}
 use Rattle.whole.proofs.Cases.{neqb→ne}
 use Rattle.rules.specs.declared.Shape.{Shape}

@@ -7,7 +7,7 @@ use lib.IntN.{ℤ}
 use lib.ListN.{length}
 use Rattle.whole.specs.Sum.{sum}
 use Rattle.rules.specs.declared.Shape.{Shape}
-use Rattle.rules.specs.Field.{Kind, quadratic, weightSum, fieldLength, elements, remainder, limit}
+use Rattle.rules.specs.Field.{Kind, quadratic, weightSum, fieldLength, limit}
 use Rattle.ledger.specs.Lists.{Call, Buffers, fresh}
 use Rattle.ledger.specs.Demand3.{Demand3}
 use Rattle.ledger.proofs.Agreement.{list-fine, fresh-fine}

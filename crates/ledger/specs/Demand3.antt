@@ -5,7 +5,7 @@ use Prim.Native.Nat.{ℕ, _≤_, _<_}
 use lib.IntN.{ℤ, pos}
 use Rattle.rules.specs.declared.Shape.{Shape}
 use Rattle.rules.specs.Field.{Kind, elements, part, remainder, mass, total}
-use Rattle.ledger.specs.Lists.{Call, State, Buffers, fresh, run, ledger, strike, repliesLeft}
+use Rattle.ledger.specs.Lists.{Call, Buffers, fresh, run, ledger, strike, repliesLeft}
 
 -- For every tracer s of the shape, with `field` and `wind` what the buffers held before they were made fresh; every remainder
 -- is below `below` and every total at most `most`. (Values are naturals: none is negative.)

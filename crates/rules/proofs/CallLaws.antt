@@ -1,32 +1,31 @@
 -- One law for each operation on a tracer: an accepted one leaves a good part good, and the ledger's line agrees with it.
 use mathlib.Core.Path.{_≡_, refl, sym, ap, _∙_, subst}
-use mathlib.Core.Bool.{Bool, true, false, _&&_, cond}
-use mathlib.Core.List.{List, [], _∷_}
+use mathlib.Core.Bool.{Bool}
+use mathlib.Core.List.{List, []}
 use mathlib.Core.Logic.{_≢_}
-use Prim.Native.Nat.{ℕ, _+_, _*_, _-_, _≤_, _<_}
+use Prim.Native.Nat.{ℕ, _+_, _-_, _≤_, _<_}
 use native.Mathlib.Nat.{mul-comm}
 use native.Mathlib.Omega.{arith}
 use lib.Arith.{digits-lt}
-use lib.Dec.{T, leb, ltb, eqb, eqb→eq, leb→le, ltb→lt}
-use lib.IntN.{ℤ, pos, _+ℤ_, _-ℤ_, +ℤ-idr}
+use lib.Dec.{T, ltb, eqb, eqb→eq, leb→le, ltb→lt}
+use lib.IntN.{ℤ, pos, negℤ, _+ℤ_, _-ℤ_, +ℤ-idr}
 use lib.ListN.{length, getD}
 use Rattle.whole.specs.Parts.{positive, negative}
-use Rattle.whole.specs.Sum.{sumℤ}
 use Rattle.whole.proofs.Cases.{both-yes, either, neqb→ne}
-use Rattle.whole.proofs.WholeLaws.{positive-pos, negative-pos, add-parts, sub-parts-of, eq-parts, pos-injective}
+use Rattle.whole.proofs.WholeLaws.{positive-pos, negative-pos, sub-parts-of, eq-parts, pos-injective}
 use Rattle.rules.specs.declared.Shape.{Shape}
-use Rattle.rules.specs.Answers.{Answer, accepted, refused}
-use Rattle.rules.specs.Field.{Kind, elements, element, onGrid, elementLength, tracerLength, cell, remainder, weighted, mass, total, limit, weightSum, sound}
-use Rattle.rules.specs.Limiter.{closed, closedUnlevelled, closingRemainder}
+use Rattle.rules.specs.Answers.{accepted}
+use Rattle.rules.specs.Field.{Kind, elements, element, onGrid, elementLength, tracerLength, cell, remainder, mass, total, limit, weightSum}
+use Rattle.rules.specs.Limiter.{closingRemainder}
 use Rattle.rules.specs.Stages.{stages}
-use Rattle.rules.specs.Step.{Stepped, tracerStep, report, finish}
-use Rattle.rules.specs.Calls.{Operation, load, emission, withdrawal, step, Lent, windAt, loaded, loadedValue, withElement, emitted, withdrawn, done, checks}
+use Rattle.rules.specs.Step.{Stepped, tracerStep, report}
+use Rattle.rules.specs.Calls.{Operation, load, emission, withdrawal, step, Lent, windAt, loaded, withElement, emitted, withdrawn, done, checks}
 use Rattle.rules.specs.Ledger.{only, entry}
 use Rattle.rules.proofs.AnswerLaws.{Passed}
-use Rattle.rules.proofs.LimiterLaws.{closed-length, closed-holds, closed-remainder, withdrawal-remainder, truncated-pos}
-use Rattle.rules.proofs.GridLaws.{only-yes, only-no}
+use Rattle.rules.proofs.LimiterLaws.{closed-length, closed-remainder, withdrawal-remainder, truncated-pos}
+use Rattle.rules.proofs.GridLaws.{only-yes, only-no, only-neg}
 use Rattle.rules.proofs.PartLaws.{Good, held, length-withElement, mass-there, mass-elsewhere, remainder-there, remainder-elsewhere, length-loaded, mass-loaded, remainder-loaded, total-pos, total-by}
-use Rattle.rules.proofs.LedgerLaws.{sum-plus, sum-minus}
+use Rattle.rules.proofs.LedgerLaws.{sum-plus}
 use Rattle.rules.proofs.StepLaws.{held-closed, held-unlevelled, length-closed, remainder-closed, length-after, good-after, books-after}
 
 -- element (i, j) of a grid has an index below the number of elements
@@ -77,23 +76,28 @@ pub record Kept (κ : Kind) (g : Shape) (op : Operation Lent) (p : List ℕ) (d 
   pub good : Good κ g (d .part)
   pub books : (e : ℕ) → e < elements g → entry κ g op (accepted (d .report)) (λ e. pos (mass κ p e)) e ≡ pos (mass κ (d .part) e)
 
--- ---- one element replaced by numbers x that hold its mass and an amount more or less
-module _ (κ : Kind) (g : Shape) (e : ℕ) (x p : List ℕ) (he : e < elements g) (width : length x ≡ elementLength κ) (h : Good κ g p) (small : getD x (κ .nodes) 0 < weightSum κ) where
+-- ---- one element replaced by numbers x that hold its mass and z, which may be negative
+module _ (κ : Kind) (g : Shape) (e : ℕ) (x p : List ℕ) (he : e < elements g) (width : length x ≡ elementLength κ) (h : Good κ g p) (small : getD x (κ .nodes) 0 < weightSum κ) (z : ℤ) (holds : pos (held κ x) ≡ pos (mass κ p e) +ℤ z) where
   abbrev new : List ℕ
   new = withElement κ g e x p
 
-  -- a line of the ledger for element e: `line` gives the new number from the old one at e, and nothing changes elsewhere
-  books-of : (line : ℕ → ℤ) → line e ≡ pos (held κ x) → ((e′ : ℕ) → e ≢ e′ → line e′ ≡ pos (mass κ p e′)) → (e′ : ℕ) → e′ < elements g → line e′ ≡ pos (mass κ new e′)
-  books-of line there elsewhere e′ _ = either (eqb e e′)
-      (λ t. let q : e ≡ e′ = eqb→eq e e′ t in subst (λ z. line z ≡ pos (mass κ new z)) q (there ∙ ap pos (sym (mass-there κ g e x p he width (h .size)))))
-      (λ t. let ne : e ≢ e′ = neqb→ne e e′ t in elsewhere e′ ne ∙ ap pos (sym (mass-elsewhere κ g e x p he width (h .size) e′ ne)))
+  -- the ledger's line
+  books-of : (e′ : ℕ) → e′ < elements g → pos (mass κ p e′) +ℤ only (eqb e e′) z ≡ pos (mass κ new e′)
+  books-of e′ _ = either (eqb e e′)
+      (λ t. let q : e ≡ e′ = eqb→eq e e′ t in subst (λ y. pos (mass κ p y) +ℤ only (eqb e y) z ≡ pos (mass κ new y)) q
+      (ap (λ y. pos (mass κ p e) +ℤ y) (only-yes e e z refl) ∙ sym holds ∙ ap pos (sym (mass-there κ g e x p he width (h .size)))))
+      (λ t. let ne : e ≢ e′ = neqb→ne e e′ t in
+      ap (λ y. pos (mass κ p e′) +ℤ y) (only-no e e′ z ne) ∙ +ℤ-idr (pos (mass κ p e′)) ∙ ap pos (sym (mass-elsewhere κ g e x p he width (h .size) e′ ne)))
+
+  total-of : pos (total κ g new) ≡ pos (total κ g p) +ℤ z
+  total-of = total-by κ g new (λ e′. pos (mass κ p e′) +ℤ only (eqb e e′) z) books-of ∙ sum-plus (elements g) e z (λ e. pos (mass κ p e)) he ∙ ap (λ y. y +ℤ z) (total-pos κ g p)
 
   good-of : total κ g new ≤ limit → Good κ g new
   good-of b = record {
     size = length-withElement κ g e x p he width (h .size);
     bounded = b;
     small = λ e′ l. either (eqb e e′)
-        (λ t. let q : e ≡ e′ = eqb→eq e e′ t in subst (λ z. remainder κ new z < weightSum κ) q (subst (λ y. y < weightSum κ) (sym (remainder-there κ g e x p he width (h .size))) small))
+        (λ t. let q : e ≡ e′ = eqb→eq e e′ t in subst (λ y. remainder κ new y < weightSum κ) q (subst (λ y. y < weightSum κ) (sym (remainder-there κ g e x p he width (h .size))) small))
         (λ t. subst (λ y. y < weightSum κ) (sym (remainder-elsewhere κ g e x p he width (h .size) e′ (neqb→ne e e′ t))) (h .small e′ l));
   }
 
@@ -108,82 +112,37 @@ load-law κ g hw l p b = record {
 emission-law : (κ : Kind) (g : Shape) (hw : 0 < weightSum κ) (i j q : ℕ) (p : List ℕ) → Good κ g p → T (onGrid g i j) → total κ g p + q ≤ limit
     → Kept κ g (emission i j q) p (record { part = withElement κ g (element g i j) (emitted κ g (element g i j) q p) p; report = [] })
 unfolding entry
-emission-law κ g hw i j q p h on b = record { good = good-of κ g e x p he width h small (subst (λ z. z ≤ limit) (sym sum-is) b); books = books }
-  where
-    e : ℕ
-    e = element g i j
+emission-law κ g hw i j q p h on b =
+    let e = element g i j in
+    let he = on-grid-lt g i j on in
+    let x = emitted κ g e q p in
+    let width = length-emitted κ g e q p in
+    let small = remainder-emitted κ g e q p hw in
+    let holds = ap pos (held-emitted κ g e q p) in
+    let sum-is : total κ g (withElement κ g e x p) ≡ total κ g p + q = pos-injective (total-of κ g e x p he width h small (pos q) holds) in
+    record { good = good-of κ g e x p he width h small (pos q) holds (omega arith); books = books-of κ g e x p he width h small (pos q) holds }
 
-    x : List ℕ
-    x = emitted κ g e q p
-
-    he : e < elements g
-    he = on-grid-lt g i j on
-
-    width : length x ≡ elementLength κ
-    width = length-emitted κ g e q p
-
-    small : getD x (κ .nodes) 0 < weightSum κ
-    small = remainder-emitted κ g e q p hw
-
-    line : ℕ → ℤ
-    line e′ = pos (mass κ p e′) +ℤ only (eqb e e′) (pos q)
-
-    books : (e′ : ℕ) → e′ < elements g → line e′ ≡ pos (mass κ (withElement κ g e x p) e′)
-    books = books-of κ g e x p he width h small line
-        (ap (λ y. pos (mass κ p e) +ℤ y) (only-yes e e (pos q) refl) ∙ ap pos (sym (held-emitted κ g e q p)))
-        (λ e′ ne. ap (λ y. pos (mass κ p e′) +ℤ y) (only-no e e′ (pos q) ne) ∙ +ℤ-idr (pos (mass κ p e′)))
-
-    sum-is : total κ g (withElement κ g e x p) ≡ total κ g p + q
-    sum-is = pos-injective (total-by κ g (withElement κ g e x p) line books ∙ sum-plus (elements g) e (pos q) (λ e. pos (mass κ p e)) he ∙ ap (λ y. y +ℤ pos q) (total-pos κ g p))
-
-sub-pos : (m q : ℕ) → q ≤ m → pos m -ℤ pos q ≡ pos (m - q)
+sub-pos : (m q : ℕ) → q ≤ m → pos (m - q) ≡ pos m -ℤ pos q
 sub-pos m q h = eq-parts (omega (arith, sub-parts-of (pos m) (pos q), positive-pos m, negative-pos m, positive-pos q, negative-pos q, positive-pos (m - q), negative-pos (m - q)))
+
+sub-le : (m n q : ℕ) → pos n ≡ pos m -ℤ pos q → n ≤ m
+sub-le m n q e = omega (arith, ap positive e, ap negative e, positive-pos n, negative-pos n, sub-parts-of (pos m) (pos q), positive-pos m, negative-pos m, positive-pos q, negative-pos q)
 
 withdrawal-law : (κ : Kind) (g : Shape) (i j q : ℕ) (p : List ℕ) → Good κ g p → T (onGrid g i j) → q ≤ mass κ p (element g i j)
     → Kept κ g (withdrawal i j q) p (record { part = withElement κ g (element g i j) (withdrawn κ g (element g i j) q p) p; report = [] })
 unfolding entry
-withdrawal-law κ g i j q p h on b = record { good = good-of κ g e x p he width h small fewer; books = books }
-  where
-    e : ℕ
-    e = element g i j
-
-    x : List ℕ
-    x = withdrawn κ g e q p
-
-    he : e < elements g
-    he = on-grid-lt g i j on
-
-    width : length x ≡ elementLength κ
-    width = length-withdrawn κ g e q p
-
-    small : getD x (κ .nodes) 0 < weightSum κ
-    small = remainder-withdrawn κ g e q p b (h .small e he)
-
-    line : ℕ → ℤ
-    line e′ = pos (mass κ p e′) -ℤ only (eqb e e′) (pos q)
-
-    books : (e′ : ℕ) → e′ < elements g → line e′ ≡ pos (mass κ (withElement κ g e x p) e′)
-    books = books-of κ g e x p he width h small line
-        (ap (λ y. pos (mass κ p e) -ℤ y) (only-yes e e (pos q) refl) ∙ sub-pos (mass κ p e) q b ∙ ap pos (sym (held-withdrawn κ g e q p)))
-        (λ e′ ne. ap (λ y. pos (mass κ p e′) -ℤ y) (only-no e e′ (pos q) ne) ∙ +ℤ-idr (pos (mass κ p e′)))
-
-    sum-is : pos (total κ g (withElement κ g e x p)) ≡ pos (total κ g p) -ℤ pos q
-    sum-is = total-by κ g (withElement κ g e x p) line books ∙ sum-minus (elements g) e (pos q) (λ e. pos (mass κ p e)) he ∙ ap (λ y. y -ℤ pos q) (total-pos κ g p)
-
-    fewer : total κ g (withElement κ g e x p) ≤ limit
-    fewer = omega (
-      arith,
-      h .bounded,
-      ap positive sum-is,
-      ap negative sum-is,
-      positive-pos (total κ g (withElement κ g e x p)),
-      negative-pos (total κ g (withElement κ g e x p)),
-      sub-parts-of (pos (total κ g p)) (pos q),
-      positive-pos (total κ g p),
-      negative-pos (total κ g p),
-      positive-pos q,
-      negative-pos q,
-    )
+withdrawal-law κ g i j q p h on b =
+    let e = element g i j in
+    let he = on-grid-lt g i j on in
+    let x = withdrawn κ g e q p in
+    let width = length-withdrawn κ g e q p in
+    let small = remainder-withdrawn κ g e q p b (h .small e he) in
+    let holds = ap pos (held-withdrawn κ g e q p) ∙ sub-pos (mass κ p e) q b in
+    let fewer = sub-le (total κ g p) (total κ g (withElement κ g e x p)) q (total-of κ g e x p he width h small (negℤ (pos q)) holds) in
+    record {
+      good = good-of κ g e x p he width h small (negℤ (pos q)) holds (omega (arith, h .bounded));
+      books = λ e′ l. ap (λ y. pos (mass κ p e′) +ℤ y) (only-neg (eqb e e′) (pos q)) ∙ books-of κ g e x p he width h small (negℤ (pos q)) holds e′ l;
+    }
 
 step-law : (κ : Kind) (g : Shape) (hw : 0 < weightSum κ) (hx : 0 < g .nx) (hy : 0 < g .ny) (l : Lent) (p : List ℕ) → Good κ g p → Kept κ g (step l) p (tracerStep κ g (windAt (l .wind)) p)
 unfolding entry tracerStep

@@ -1,18 +1,18 @@
 -- A call on the field reads and writes one tracer's part and nothing else.
-use mathlib.Core.Path.{_≡_, refl, sym, ap, _∙_, subst}
+use mathlib.Core.Path.{_≡_, refl, sym, _∙_}
 use mathlib.Core.Bool.{Bool, true, false, _&&_}
-use mathlib.Core.List.{List, [], _∷_}
+use mathlib.Core.List.{List, _∷_}
 use mathlib.Core.Logic.{_≢_}
 use Prim.Native.Nat.{ℕ, _+_, _*_, _≤_, _<_}
 use native.Mathlib.Omega.{arith}
 use lib.Dec.{T, leb, ltb, leb→le, le→leb, ltb→lt}
-use lib.IntN.{ℤ, pos}
+use lib.IntN.{ℤ}
 use lib.ListN.{length}
 use Rattle.whole.proofs.Cases.{both-yes}
 use Rattle.whole.proofs.OverwriteLaws.{part-room, length-replaced, part-same, part-other}
 use Rattle.rules.specs.declared.Shape.{Shape}
 use Rattle.rules.specs.Answers.{Answer, accepted, refused, Check, check, answer, after}
-use Rattle.rules.specs.Field.{Kind, admitted, from1to, elements, tracerLength, fieldLength, part, withPart, weightSum}
+use Rattle.rules.specs.Field.{Kind, admitted, from1to, tracerLength, fieldLength, part, withPart}
 use Rattle.rules.specs.Step.{Stepped}
 use Rattle.rules.specs.Calls.{Operation, load, emission, withdrawal, step, Lent, lentEnough, done, checks, call}
 use Rattle.rules.proofs.AnswerLaws.{Passed, answer-ind}

@@ -1,13 +1,13 @@
 -- Neighbours and faces: they stay on the grid, east undoes west and north undoes south, and a sum over all faces of what an
 -- element's faces do is a sum over its four sides, also where one face lies on two of them.
 use mathlib.Core.Path.{_≡_, refl, sym, ap, ap₂, _∙_}
-use mathlib.Core.Bool.{Bool, not, cond}
+use mathlib.Core.Bool.{Bool, not}
 use mathlib.Core.Logic.{_≢_}
-use Prim.Native.Nat.{ℕ, _+_, _*_, _-_, _/_, _%_, _≤_, _<_}
+use Prim.Native.Nat.{ℕ, _+_, _*_, _-_, _/_, _%_, _<_}
 use native.Mathlib.Nat.{mul-comm, mod-lt, mod-add-mod, add-mod-right, mod-eq-of-lt, div-lt-iff-lt-mul, div-add-mod'}
 use native.Mathlib.Omega.{arith}
 use lib.Arith.{digits-lt, digits-div, digits-mod}
-use lib.Dec.{T, ltb, eqb, eqb→eq, ltb→lt, lt→ltb, nltb→le, not-T}
+use lib.Dec.{T, eqb, ltb→lt, lt→ltb, nltb→le, not-T}
 use lib.IntN.{ℤ, pos, negℤ, _+ℤ_, _-ℤ_}
 use Rattle.whole.specs.Sum.{sumℤ}
 use Rattle.whole.proofs.Cases.{cond-ind, cond-yes, cond-no, eqb-of, ne→neqb}

@@ -1,13 +1,12 @@
 -- The closing's laws, for any number of nodes whose weights sum to more than 0.
-use mathlib.Core.Path.{_≡_, refl, sym, ap, _∙_}
-use mathlib.Core.List.{List, [], _∷_, _++_}
+use mathlib.Core.Path.{_≡_, ap, _∙_}
+use mathlib.Core.List.{[], _∷_}
 use Prim.Native.Nat.{ℕ, _+_, _*_, _-_, _≤_, _<_}
-use native.Mathlib.Nat.{mul-add, mul-le-mul-left, le-refl}
+use native.Mathlib.Nat.{mul-add, mul-le-mul-left}
 use native.Mathlib.Omega.{arith}
 use lib.IntN.{ℤ, pos, _+ℤ_, _-ℤ_, _*ℤ_}
 use lib.ListN.{length, getD, length-append, List·getD-append}
 use lib.Seq.{getD-at}
-use Rattle.whole.specs.Bound.{floorDiv}
 use Rattle.whole.specs.Parts.{positive, negative}
 use Rattle.whole.specs.Sum.{sum, sumℤ}
 use Rattle.whole.specs.Table.{table}
@@ -15,7 +14,7 @@ use Rattle.whole.proofs.WholeLaws.{positive-pos, negative-pos, add-parts, sub-p
 use Rattle.whole.proofs.SumLaws.{sum-le, sum-cong, sum-add, sum-mul-right, weighted-parts, term-le}
 use Rattle.whole.proofs.TableLaws.{length-table, getD-table}
 use Rattle.rules.specs.Field.{Kind, weightSum, weighted, elementLength}
-use Rattle.rules.specs.Limiter.{meanShift, adjusted, truncated, rescaled, rescaledValue, closingRemainder, closedUnlevelled, closed}
+use Rattle.rules.specs.Limiter.{meanShift, adjusted, truncated, rescaledValue, closingRemainder, closedUnlevelled}
 use Rattle.rules.proofs.RescalingLaws.{rescaled-le, rescaled-near}
 
 -- one node or more, with positive weights, sum to more than 0

@@ -2,7 +2,7 @@
 use mathlib.Core.Path.{_≡_, refl}
 use mathlib.Core.Bool.{cond}
 use mathlib.Core.List.{List, [], _∷_, _++_, map}
-use Prim.Native.Nat.{ℕ, _+_, _*_, _-_, _/_, _%_}
+use Prim.Native.Nat.{ℕ}
 use lib.Dec.{eqb}
 use lib.IntN.{ℤ, pos, negsuc}
 use lib.ListN.{getD, replicate}
@@ -10,7 +10,7 @@ use Rattle.whole.specs.Parts.{positive}
 use Rattle.whole.specs.Sum.{sum, sumℤ}
 use Rattle.whole.specs.Table.{table}
 use Rattle.rules.specs.declared.Shape.{Shape}
-use Rattle.rules.specs.Field.{quadratic, weightSum, weighted, faces, northFace}
+use Rattle.rules.specs.Field.{quadratic, weightSum, weighted, northFace}
 use Rattle.rules.specs.Grid.{east, west, north, behind, ahead}
 use Rattle.rules.specs.Limiter.{meanShift, adjusted, truncated, rescaled, rescaledValue, closingRemainder, closedUnlevelled, closed}
 use Rattle.rules.specs.Stages.{fluxOf}

@@ -1,15 +1,15 @@
 -- A tracer's part: its numbers, masses and total, after its elements are made anew or one of them is replaced.
-use mathlib.Core.Path.{_≡_, refl, sym, ap, ap₂, _∙_, subst}
+use mathlib.Core.Path.{_≡_, sym, ap, ap₂, _∙_}
 use mathlib.Core.List.{List, [], _∷_, _++_}
 use mathlib.Core.Logic.{_≢_}
 use Prim.Native.Nat.{ℕ, _+_, _*_, _≤_, _<_}
 use native.Mathlib.Nat.{add-zero, one-mul, mul-le-mul-right}
 use native.Mathlib.Omega.{arith}
 use lib.IntN.{ℤ, pos}
-use lib.ListN.{length, getD, take, drop, length-append, length-drop, List·getD-append}
+use lib.ListN.{length, getD, drop, length-append, length-drop, List·getD-append}
 use lib.Seq.{length-take-le, getD-at}
 use Rattle.whole.specs.Sum.{sum, sumℤ}
-use Rattle.whole.specs.Table.{table, blocks, overwrite}
+use Rattle.whole.specs.Table.{table, blocks}
 use Rattle.whole.proofs.SumLaws.{sum-cong, sum-pos, sumℤ-cong, term-le}
 use Rattle.whole.proofs.TableLaws.{length-table, getD-table, length-blocks, getD-blocks}
 use Rattle.whole.proofs.OverwriteLaws.{part-room, number-same, number-other, length-replaced}

@@ -1,11 +1,10 @@
 -- Rescaling, for any number n of terms with weights w: what is left of the sum is at most t, and less than the sum of the
 -- weights below it. The closing rescales nodes, the flux correction faces.
 use mathlib.Core.Path.{_≡_, refl, ap, _∙_}
-use mathlib.Core.Bool.{Bool}
 use Prim.Native.Nat.{ℕ, _+_, _*_, _/_, _≤_, _<_}
 use native.Mathlib.Nat.{mul-add, mul-one, mul-comm, mul-left-comm, div-add-mod, mod-lt, mul-le-mul-left, lt-of-mul-lt-mul-left, le-of-mul-le-mul-left}
 use native.Mathlib.Omega.{arith}
-use lib.Dec.{T, leb, leb→le, nleb→lt}
+use lib.Dec.{leb, leb→le, nleb→lt}
 use Rattle.whole.proofs.Cases.{cond-ind, either}
 use Rattle.whole.proofs.SumLaws.{sum-le, sum-cong, sum-add, sum-mul}
 use Rattle.whole.specs.Sum.{sum}

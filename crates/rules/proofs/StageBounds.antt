@@ -1,25 +1,24 @@
 -- How large the stages are: with every wind number within 1024 and every stored value at most B, a tendency is at most 7 times
 -- the largest value that it is made of. The step's code needs these sizes.
-use mathlib.Core.Path.{_≡_, refl, sym, ap, subst, _∙_}
+use mathlib.Core.Path.{_≡_, refl, ap, _∙_}
 use mathlib.Core.Bool.{Bool, true, false, cond}
 use mathlib.Core.List.{List}
 use Prim.Native.Nat.{ℕ, _+_, _*_, _-_, _/_, _%_, _≤_, _<_}
-use native.Mathlib.Nat.{le-trans, le-of-eq, mul-comm, mul-assoc, mul-left-comm, mul-right-comm, mul-le-mul, mul-le-mul-left, mul-le-mul-right, div-lt-iff-lt-mul, mod-lt, add-mul}
+use native.Mathlib.Nat.{mul-comm, mul-assoc, mul-left-comm, mul-right-comm, mul-le-mul, mul-le-mul-left, mul-le-mul-right, div-lt-iff-lt-mul, mod-lt, add-mul}
 use native.Mathlib.Omega.{arith}
-use lib.Dec.{T, eqb, leb, leb→le, lit<}
-use lib.IntN.{ℤ, pos, natAbs, _+ℤ_, _-ℤ_, _*ℤ_}
+use lib.Dec.{eqb, leb, leb→le}
+use lib.IntN.{ℤ, pos, natAbs, _+ℤ_, _*ℤ_}
 use lib.ListN.{getD}
 use lib.Signed.{nonNeg}
-use Rattle.whole.specs.Bound.{Within, floorDiv, truncDiv}
-use Rattle.whole.specs.Sum.{sum, sumℤ, all}
-use Rattle.whole.specs.Table.{table}
+use Rattle.whole.specs.Bound.{Within}
+use Rattle.whole.specs.Sum.{sum, all}
 use Rattle.whole.proofs.Cases.{cond-ind}
 use Rattle.whole.proofs.BoundLaws.{within-le, within-add, within-sub, within-mul, within-pos, within-sum, within-floor, within-trunc-by}
 use Rattle.whole.proofs.SumLaws.{sum-cong, sum-mul-right, all-at}
 use Rattle.whole.proofs.TableLaws.{table-all}
 use Rattle.rules.specs.declared.Shape.{Shape}
 use Rattle.rules.specs.Field.{Kind, quadratic, elements, faces, northFace, cell, elementLength}
-use Rattle.rules.specs.Grid.{west, south, looksEast, behind, ahead}
+use Rattle.rules.specs.Grid.{west, south}
 use Rattle.rules.specs.Stages.{node, lastPlace, upwind, placeWind, advection, alongX, alongY, tendency, tabulated, stage0, stage1, stage2, tentative, faceSum, fluxOf, Stages, stages, flux}
 use Rattle.rules.proofs.GridLaws.{west-lt, south-lt}
 

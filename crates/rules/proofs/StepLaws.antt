@@ -1,16 +1,16 @@
 -- A step of one tracer, whatever its stages are: the report is the limited fluxes, every element is closed to its target, the
 -- ledger's line agrees, and the total stays.
-use mathlib.Core.Path.{_≡_, refl, sym, ap, ap₂, _∙_, subst}
+use mathlib.Core.Path.{_≡_, sym, ap, _∙_, subst}
 use mathlib.Core.List.{List}
-use Prim.Native.Nat.{ℕ, _+_, _*_, _≤_, _<_}
-use native.Mathlib.Nat.{le-refl, le-trans, le-of-eq}
+use Prim.Native.Nat.{ℕ, _≤_, _<_}
+use native.Mathlib.Nat.{le-refl}
 use native.Mathlib.Omega.{arith}
 use lib.Dec.{eqb}
 use lib.IntN.{ℤ, pos, natAbs, _+ℤ_, _-ℤ_}
 use lib.ListN.{length, getD}
 use Rattle.whole.specs.Parts.{positive, negative}
 use Rattle.whole.specs.Sum.{sumℤ}
-use Rattle.whole.specs.Table.{table, blocks}
+use Rattle.whole.specs.Table.{table}
 use Rattle.whole.proofs.WholeLaws.{pos-positive, pos-injective}
 use Rattle.whole.proofs.SumLaws.{sumℤ-cong}
 use Rattle.whole.proofs.TableLaws.{length-table, getD-table, length-blocks}

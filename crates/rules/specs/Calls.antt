@@ -1,5 +1,5 @@
 -- Document 01, "Calls on a field" and "Who meets which refusal": what each call answers, and what it leaves in its buffers.
-use mathlib.Core.Bool.{Bool, true, false, _&&_, cond}
+use mathlib.Core.Bool.{Bool, true, _&&_, cond}
 use mathlib.Core.List.{List, [], _∷_, _++_}
 use Prim.Native.Nat.{ℕ, _+_, _*_, _-_}
 use lib.Dec.{leb, ltb}

@@ -1,6 +1,6 @@
 -- Document 01, "Step": flux correction and the targets, from the masses m of the elements and the fluxes of the faces.
 use mathlib.Core.Bool.{cond}
-use Prim.Native.Nat.{ℕ, _+_}
+use Prim.Native.Nat.{ℕ}
 use lib.Dec.{eqb}
 use lib.IntN.{ℤ, pos, negsuc, negℤ, natAbs, _+ℤ_, _-ℤ_}
 use lib.Signed.{nonNeg}

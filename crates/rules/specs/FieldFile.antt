@@ -8,7 +8,7 @@ use lib.ListN.{length, getD}
 use Rattle.whole.specs.Sum.{all}
 use Rattle.whole.specs.Table.{table, blocks, overwrite}
 use Rattle.rules.specs.declared.Shape.{Shape}
-use Rattle.rules.specs.Answers.{Answer, Check, check, answer, after}
+use Rattle.rules.specs.Answers.{Answer, check, answer, after}
 use Rattle.rules.specs.Field.{Kind, admitted, faces, tracerLength, fieldLength, part, sound}
 use Rattle.rules.specs.Calls.{windAt, windSound}
 

@@ -1,6 +1,6 @@
 -- Document 01, "Field": neighbours, which wrap, and the two ends of a face.
 use mathlib.Core.Bool.{Bool, cond}
-use Prim.Native.Nat.{ℕ, _+_, _*_, _-_, _/_, _%_}
+use Prim.Native.Nat.{ℕ, _+_, _-_, _/_, _%_}
 use lib.Dec.{ltb}
 use Rattle.rules.specs.declared.Shape.{Shape}
 use Rattle.rules.specs.declared.Way.{Way}

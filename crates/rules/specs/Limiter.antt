@@ -2,12 +2,12 @@
 -- Given the signed ψ and a target T it gives an element's numbers; T is a natural.
 use mathlib.Core.Bool.{cond}
 use mathlib.Core.List.{List, [], _∷_, _++_}
-use Prim.Native.Nat.{ℕ, _+_, _*_, _-_, _/_}
+use Prim.Native.Nat.{ℕ, _*_, _-_, _/_}
 use lib.Dec.{leb}
 use lib.IntN.{ℤ, pos, _+ℤ_, _-ℤ_, _*ℤ_}
 use Rattle.whole.specs.Bound.{floorDiv}
 use Rattle.whole.specs.Parts.{positive}
-use Rattle.whole.specs.Sum.{sum, sumℤ}
+use Rattle.whole.specs.Sum.{sumℤ}
 use Rattle.whole.specs.Table.{table}
 use Rattle.rules.specs.Field.{Kind, weightSum, weighted}
 

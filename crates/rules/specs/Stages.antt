@@ -1,6 +1,6 @@
 -- Document 01, "Step": upwind values, the tendency, the three stages, and the face amounts (fluxes) G.
 -- A stage is a function φ of an element and a node, the wind a function c of a face.
-use mathlib.Core.Bool.{Bool, cond}
+use mathlib.Core.Bool.{cond}
 use mathlib.Core.List.{List}
 use Prim.Native.Nat.{ℕ, _+_, _*_, _-_, _/_, _%_}
 use lib.Dec.{eqb}
@@ -11,7 +11,7 @@ use Rattle.whole.specs.Bound.{floorDiv, truncDiv}
 use Rattle.whole.specs.Sum.{sumℤ}
 use Rattle.whole.specs.Table.{table}
 use Rattle.rules.specs.declared.Shape.{Shape}
-use Rattle.rules.specs.Field.{Kind, elements, faces, northFace, cell}
+use Rattle.rules.specs.Field.{Kind, elements, northFace, cell}
 use Rattle.rules.specs.Grid.{west, south, looksEast, behind, ahead}
 
 -- "Node (a, b) has a, b in 0..2 (west to east, south to north)", "b outer, a inner"

@@ -1,14 +1,14 @@
 -- How `Within` goes through sums, products, the two divisions, and the machine's widths.
-use mathlib.Core.Path.{_≡_, refl, sym, subst}
+use mathlib.Core.Path.{_≡_, refl}
 use mathlib.Core.Bool.{Bool, true, false, not}
 use Prim.Native.Nat.{ℕ, zero, suc, _+_, _-_, _*_, _/_, _%_, _^_, _≤_, _<_, zero-le}
 use native.Mathlib.Nat.{le-trans, le-refl, le-suc, le-of-lt, le-of-eq, add-le-add, mul-le-mul, mul-comm, mod-le, div-zero, div-le-self, div-mul-le-self, le-div-iff-mul-le, zero-lt-suc, div-le-of-le-mul, div-lt-iff-lt-mul}
 use native.Mathlib.Omega.{arith}
 use lib.Dec.{T, lit<, ltb, ltb→lt, nltb→le}
 use lib.IntN.{ℤ, pos, negsuc, negℤ, natAbs, _+ℤ_, _-ℤ_, _*ℤ_}
-use lib.Signed.{mag, quotZ, remZ, shrZ}
+use lib.Signed.{mag, quotZ, remZ}
 use mir.Syntax.{Width, w8, w16, w32, w64, w128}
-use mir.Val.{SFits, bits, hbits, toZ, ofZ, sel}
+use mir.Val.{bits, hbits, toZ, ofZ, sel}
 use Rattle.whole.specs.Bound.{Within, floorDiv, truncDiv}
 use Rattle.whole.specs.Sum.{sum, sumℤ}
 use Rattle.whole.proofs.WholeLaws.{abs-neg, abs-add, abs-mul}

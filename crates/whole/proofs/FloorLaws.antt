@@ -1,7 +1,7 @@
 -- The quotient toward zero, less one where the remainder is negative, is the quotient rounded down.
 use mathlib.Core.Path.{_≡_, refl, sym, ap, subst, _∙_}
 use mathlib.Core.Bool.{Bool, true, false, not}
-use Prim.Native.Nat.{ℕ, zero, suc, _+_, _-_, _*_, _/_, _%_, _≤_, _<_}
+use Prim.Native.Nat.{ℕ, zero, suc, _*_, _/_, _%_, _<_}
 use native.Mathlib.Nat.{div-eq-of-lt-le, div-add-mod', mod-lt, zero-mul}
 use native.Mathlib.Omega.{arith}
 use lib.Dec.{T, leb→le, ltb→lt}

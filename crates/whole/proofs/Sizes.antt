@@ -3,7 +3,7 @@
 -- operation, is z, under a test that computes. So every overflow need is `fits (search sizes depth 20) tt`, and every signed
 -- result `exact (search exacts depth 20) tt`. A search takes the shallowest proof: the sets are small, and layered.
 use mathlib.Core.Path.{_≡_, refl, sym, ap, subst, _∙_}
-use mathlib.Core.Bool.{Bool, true, false, _&&_}
+use mathlib.Core.Bool.{Bool, true, _&&_}
 use mathlib.Core.List.{List, [], _∷_}
 use Prim.Native.Nat.{ℕ, zero, suc, _+_, _*_, _/_, _^_, _≤_, _<_}
 use native.Mathlib.Nat.{le-trans, le-of-lt, lt-of-le-of-lt, le-refl}
@@ -13,7 +13,7 @@ use lib.IntN.{ℤ, pos, negsuc, negℤ, natAbs, _+ℤ_, _*ℤ_}
 use lib.ListN.{getD, set}
 use lib.Signed.{mag, quotZ, remZ, ltZ, leZ}
 use mir.Syntax.{Width, w16, w32, w64}
-use mir.Val.{SFits, Fits, bits, hbits, toZ, ofZ}
+use mir.Val.{SFits, Fits, hbits, toZ, ofZ}
 use mir.Facts.{toZ-ofZ, and-yes, toZ-pos}
 use Rattle.whole.specs.Bound.{Within, Are, AllWithin, floorDiv, truncDiv}
 use Rattle.whole.proofs.BoundLaws.{within-le, within-add, within-mul, within-neg, within-pos, within-neg-suc, within-trunc, within-floor-any, within-rem, within-quot, within-mag, within-back, mag-le}

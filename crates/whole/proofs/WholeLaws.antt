@@ -1,12 +1,11 @@
 -- Laws of whole numbers through their two parts. A linear statement on ℤ follows by `omega` from `add-parts` and its like.
 use mathlib.Core.Path.{_≡_, refl, sym, ap, _∙_}
-use mathlib.Core.Bool.{Bool, true, false, not, cond}
-use Prim.Native.Nat.{ℕ, zero, suc, _+_, _*_, _-_, _/_, _%_, _≤_, _<_}
+use Prim.Native.Nat.{ℕ, zero, suc, _+_, _*_, _-_, _/_, _≤_, _<_}
 use native.Mathlib.Nat.{mul-zero, div-add-mod, mod-lt, mul-suc}
 use native.Mathlib.Omega.{arith}
-use lib.Dec.{T, leb, ltb, leb→le, le→leb, ltb→lt, nltb→le}
+use lib.Dec.{ltb, le→leb, ltb→lt, nltb→le}
 use lib.IntN.{ℤ, pos, negsuc, negℤ, natAbs, subℕ, _+ℤ_, _-ℤ_, _*ℤ_}
-use lib.Signed.{leZ, shrZ, _≤ℤ_}
+use lib.Signed.{_≤ℤ_}
 use Rattle.whole.specs.Parts.{positive, negative}
 use Rattle.whole.specs.Bound.{floorDiv}
 use Rattle.whole.proofs.Cases.{cond-ind}
