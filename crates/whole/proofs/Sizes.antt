@@ -35,6 +35,10 @@ fits {w} {z} p t = record { sfits = lt-of-le-of-lt (le-trans (mag-le z) (p .smal
 pub within : {n : ℕ} {z : ℤ} (p : Sized z) → T (leb (p .size) n) → Within n z
 within {n} p t = within-le (p .small) (leb→le (p .size) n t)
 
+-- a number that fits, written and read back
+pub back-is : {n : ℕ} (w : Width) (z : ℤ) → Within n z → T (ltb n (2 ^ hbits w)) → toZ w (ofZ w z) ≡ z
+back-is {n} w z p t = toZ-ofZ (fits (record { size = n; small = p }) t)
+
 pub exact : {r z : ℤ} (p : Exact r z) → T (p .good) → r ≡ z
 exact p t = p .same t
 

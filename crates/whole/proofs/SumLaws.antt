@@ -4,7 +4,7 @@ use mathlib.Core.Bool.{Bool}
 use mathlib.Core.Logic.{_≢_}
 use Prim.Native.Nat.{ℕ, zero, suc, _+_, _*_, _≤_, _<_}
 use native.Mathlib.Nat.{mul-zero, mul-add, mul-comm, le-refl, add-zero, add-suc}
-use native.Mathlib.Decide.{ℕ-discrete}
+use native.Mathlib.Decide.{ℕ-discrete, le-ind}
 use native.Mathlib.Numerals.{add-one}
 use native.Mathlib.Omega.{arith}
 use lib.Dec.{T}
@@ -136,3 +136,12 @@ all-at (suc n) f t i h =
     go : Dec (i ≡ n) → T (f n) → (i < n → T (f i)) → T (f i)
     go (yes e) t ih = subst (λ k. T (f k)) (sym e) t
     go (no ne) t ih = ih (omega (arith, ne))
+
+-- ---- one term more, and more terms
+pub sumℤ-more : (n : ℕ) (f : ℕ → ℤ) → sumℤ (n + 1) f ≡ sumℤ n f +ℤ f n
+unfolding sumℤ
+sumℤ-more n f = rw (add-one n)
+
+pub sum-mono : (f : ℕ → ℕ) (m n : ℕ) → m ≤ n → sum m f ≤ sum n f
+unfolding sum
+sum-mono f m n h = le-ind (λ k. sum m f ≤ sum k f) (le-refl (sum m f)) (λ k l r. omega arith) n h

@@ -1,14 +1,14 @@
 -- Laws of tables: their length, a number of theirs, and one more entry.
 use mathlib.Core.Path.{_≡_, refl, sym, ap, subst, _∙_}
-use mathlib.Core.List.{List, [], _∷_, _++_}
+use mathlib.Core.List.{List, [], _∷_, _++_, append-assoc}
 use Prim.Native.Nat.{ℕ, zero, suc, _+_, _*_, _<_}
 use native.Mathlib.Nat.{add-zero, mul-one, suc-mul}
 use native.Mathlib.Decide.{ℕ-discrete, decLt}
 use native.Mathlib.Numerals.{add-one}
 use native.Mathlib.Omega.{arith}
 use lib.Arith.{digits-lt}
-use lib.ListN.{length, getD, length-append, List·getD-append, List·getD-eq-default}
-use lib.Seq.{getD-append-add}
+use lib.ListN.{length, getD, set, drop, drop-of-length-le, length-append, List·getD-append, List·getD-eq-default}
+use lib.Seq.{getD-append-add, drop-cons, set-at}
 use Rattle.whole.specs.Table.{blocks, table}
 
 module _ {ℓ} {A : Type ℓ} where
@@ -64,3 +64,13 @@ module _ {ℓ} {A : Type ℓ} where
       go : Dec (i < n) → P (getD (table n f) i d)
       go (yes h) = subst P (sym (getD-table n f i d h)) (all′ i h)
       go (no h) = subst P (sym (List·getD-eq-default (table n f) d (omega (arith, length-table n f)))) none
+
+  -- ---- a loop that fills a list from the front: the first n entries are the table's, the others as they were
+  pub fill-more : (n : ℕ) (f : ℕ → A) (l : List A) → n < length l → set (table n f ++ drop n l) n (f n) ≡ table (n + 1) f ++ drop (n + 1) l
+  fill-more n f l h = ap (λ x. set (table n f ++ x) n (f n)) (drop-cons l n (f n) h) ∙ set-at (table n f) (getD l n (f n)) (drop (suc n) l) (f n) n (length-table n f)
+    ∙ sym (rw (table-more n f, add-one n) (append-assoc (table n f) (f n ∷ []) (drop (suc n) l)))
+
+  -- and the last entry of the list is set
+  pub fill-last : (n : ℕ) (f : ℕ → A) (l : List A) (x : A) → length l ≡ n + 1 → set (table n f ++ drop n l) n x ≡ table n f ++ (x ∷ [])
+  fill-last n f l x h = ap (λ y. set (table n f ++ y) n x) (drop-cons l n x (omega arith)) ∙ set-at (table n f) (getD l n x) (drop (suc n) l) x n (length-table n f)
+    ∙ ap (λ y. table n f ++ (x ∷ y)) (drop-of-length-le l {i = suc n} (omega arith))

@@ -5,7 +5,7 @@ use native.Mathlib.Nat.{mul-zero, div-add-mod, mod-lt, mul-suc}
 use native.Mathlib.Omega.{arith}
 use lib.Dec.{ltb, le→leb, ltb→lt, nltb→le}
 use lib.IntN.{ℤ, pos, negsuc, negℤ, natAbs, subℕ, _+ℤ_, _-ℤ_, _*ℤ_}
-use lib.Signed.{_≤ℤ_}
+use lib.Signed.{_≤ℤ_, _<ℤ_}
 use Rattle.whole.specs.Parts.{positive, negative}
 use Rattle.whole.specs.Bound.{floorDiv}
 use Rattle.whole.proofs.Cases.{cond-ind}
@@ -137,3 +137,17 @@ abs-mul (pos a) (pos b) = refl
 abs-mul (pos a) (negsuc b) = abs-neg (pos (a * suc b))
 abs-mul (negsuc a) (pos b) = abs-neg (pos (suc a * b))
 abs-mul (negsuc a) (negsuc b) = refl
+
+-- ---- what tests against 0 say of the positive part
+pub positive-below : (z : ℤ) → z <ℤ pos 0 → positive z ≡ 0
+unfolding positive
+positive-below (pos n) h = let k : n < 0 = ltb→lt n 0 (h .lt) in let f : ⊥ = omega arith in absurd f
+positive-below (negsuc n) h = refl
+
+pub above-positive : (z : ℤ) → pos 0 ≤ℤ z → z ≡ pos (positive z)
+unfolding positive
+above-positive (pos n) h = refl
+above-positive (negsuc n) h = absurd (h .le)
+
+pub positive-le : (z : ℤ) → positive z ≤ natAbs z
+positive-le z = omega (arith, abs-parts z)

@@ -1,0 +1,2 @@
+-- Laws of the closing's loops.
+pub mod Laws

@@ -1,0 +1,2 @@
+-- What the closing's callers ensure.
+pub mod Sizes
