@@ -35,28 +35,28 @@ on-grid-lt g i j t =
     omega (arith, digits-lt {q = j} {m = g .ny} {r = i} {c = g .nx} (ltb→lt j (g .ny) (b .1)) (ltb→lt i (g .nx) (b .0)), mul-comm (g .nx) (g .ny))
 
 -- ---- the numbers of an element after an emission and after a withdrawal
-module _ (κ : Kind) (g : Shape) (e q : ℕ) (p : List ℕ) where
-  length-emitted : length (emitted κ g e q p) ≡ elementLength κ
+module _ (κ : Kind) (e q : ℕ) (p : List ℕ) where
+  length-emitted : length (emitted κ e q p) ≡ elementLength κ
   unfolding emitted
   length-emitted = length-closed κ (λ k. pos (cell κ p e k)) (mass κ p e + q)
 
-  held-emitted : held κ (emitted κ g e q p) ≡ mass κ p e + q
+  held-emitted : held κ (emitted κ e q p) ≡ mass κ p e + q
   unfolding emitted
   held-emitted = held-closed κ (λ k. pos (cell κ p e k)) (mass κ p e + q)
 
-  remainder-emitted : 0 < weightSum κ → getD (emitted κ g e q p) (κ .nodes) 0 < weightSum κ
+  remainder-emitted : 0 < weightSum κ → getD (emitted κ e q p) (κ .nodes) 0 < weightSum κ
   unfolding emitted
   remainder-emitted hw = remainder-closed κ (λ k. pos (cell κ p e k)) (mass κ p e + q) hw
 
-  length-withdrawn : length (withdrawn κ g e q p) ≡ elementLength κ
+  length-withdrawn : length (withdrawn κ e q p) ≡ elementLength κ
   unfolding withdrawn
   length-withdrawn = closed-length κ (λ k. pos (cell κ p e k)) (mass κ p e - q)
 
-  held-withdrawn : held κ (withdrawn κ g e q p) ≡ mass κ p e - q
+  held-withdrawn : held κ (withdrawn κ e q p) ≡ mass κ p e - q
   unfolding withdrawn
   held-withdrawn = held-unlevelled κ (λ k. pos (cell κ p e k)) (mass κ p e - q)
 
-  remainder-withdrawn : q ≤ mass κ p e → remainder κ p e < weightSum κ → getD (withdrawn κ g e q p) (κ .nodes) 0 < weightSum κ
+  remainder-withdrawn : q ≤ mass κ p e → remainder κ p e < weightSum κ → getD (withdrawn κ e q p) (κ .nodes) 0 < weightSum κ
   unfolding withdrawn mass
   remainder-withdrawn b l = subst (λ y. y < weightSum κ)
       (sym (closed-remainder κ (λ k. pos (cell κ p e k)) (mass κ p e - q) ∙ ap (λ v. closingRemainder κ v (mass κ p e - q)) (truncated-pos (cell κ p e))))
@@ -67,8 +67,8 @@ pub done-length : (κ : Kind) (g : Shape) (hx : 0 < g .nx) (hy : 0 < g .ny) (op 
     → length (done κ g op p .part) ≡ tracerLength κ g
 unfolding done checks tracerStep
 done-length κ g hx hy (load l) there p h c = length-loaded κ g l
-done-length κ g hx hy (emission i j q) there p h c = length-withElement κ g (element g i j) (emitted κ g (element g i j) q p) p (on-grid-lt g i j (c .1 .1 .0)) (length-emitted κ g (element g i j) q p) h
-done-length κ g hx hy (withdrawal i j q) there p h c = length-withElement κ g (element g i j) (withdrawn κ g (element g i j) q p) p (on-grid-lt g i j (c .1 .1 .0)) (length-withdrawn κ g (element g i j) q p) h
+done-length κ g hx hy (emission i j q) there p h c = length-withElement κ g (element g i j) (emitted κ (element g i j) q p) p (on-grid-lt g i j (c .1 .1 .0)) (length-emitted κ (element g i j) q p) h
+done-length κ g hx hy (withdrawal i j q) there p h c = length-withElement κ g (element g i j) (withdrawn κ (element g i j) q p) p (on-grid-lt g i j (c .1 .1 .0)) (length-withdrawn κ (element g i j) q p) h
 done-length κ g hx hy (step l) there p h c = length-after κ g hx hy (windAt (l .wind)) p (stages κ g (windAt (l .wind)) p)
 
 -- what an operation leaves of a part p, and the ledger's line for it
@@ -79,7 +79,7 @@ pub record Kept (κ : Kind) (g : Shape) (op : Operation Lent) (p : List ℕ) (d 
 -- ---- one element replaced by numbers x that hold its mass and z, which may be negative
 module _ (κ : Kind) (g : Shape) (e : ℕ) (x p : List ℕ) (he : e < elements g) (width : length x ≡ elementLength κ) (h : Good κ g p) (small : getD x (κ .nodes) 0 < weightSum κ) (z : ℤ) (holds : pos (held κ x) ≡ pos (mass κ p e) +ℤ z) where
   abbrev new : List ℕ
-  new = withElement κ g e x p
+  new = withElement κ e x p
 
   -- the ledger's line
   books-of : (e′ : ℕ) → e′ < elements g → pos (mass κ p e′) +ℤ only (eqb e e′) z ≡ pos (mass κ new e′)
@@ -110,16 +110,16 @@ load-law κ g hw l p b = record {
 }
 
 emission-law : (κ : Kind) (g : Shape) (hw : 0 < weightSum κ) (i j q : ℕ) (p : List ℕ) → Good κ g p → T (onGrid g i j) → total κ g p + q ≤ limit
-    → Kept κ g (emission i j q) p (record { part = withElement κ g (element g i j) (emitted κ g (element g i j) q p) p; report = [] })
+    → Kept κ g (emission i j q) p (record { part = withElement κ (element g i j) (emitted κ (element g i j) q p) p; report = [] })
 unfolding entry
 emission-law κ g hw i j q p h on b =
     let e = element g i j in
     let he = on-grid-lt g i j on in
-    let x = emitted κ g e q p in
-    let width = length-emitted κ g e q p in
-    let small = remainder-emitted κ g e q p hw in
-    let holds = ap pos (held-emitted κ g e q p) in
-    let sum-is : total κ g (withElement κ g e x p) ≡ total κ g p + q = pos-injective (total-of κ g e x p he width h small (pos q) holds) in
+    let x = emitted κ e q p in
+    let width = length-emitted κ e q p in
+    let small = remainder-emitted κ e q p hw in
+    let holds = ap pos (held-emitted κ e q p) in
+    let sum-is : total κ g (withElement κ e x p) ≡ total κ g p + q = pos-injective (total-of κ g e x p he width h small (pos q) holds) in
     record { good = good-of κ g e x p he width h small (pos q) holds (omega arith); books = books-of κ g e x p he width h small (pos q) holds }
 
 sub-pos : (m q : ℕ) → q ≤ m → pos (m - q) ≡ pos m -ℤ pos q
@@ -129,16 +129,16 @@ sub-le : (m n q : ℕ) → pos n ≡ pos m -ℤ pos q → n ≤ m
 sub-le m n q e = omega (arith, ap positive e, ap negative e, positive-pos n, negative-pos n, sub-parts-of (pos m) (pos q), positive-pos m, negative-pos m, positive-pos q, negative-pos q)
 
 withdrawal-law : (κ : Kind) (g : Shape) (i j q : ℕ) (p : List ℕ) → Good κ g p → T (onGrid g i j) → q ≤ mass κ p (element g i j)
-    → Kept κ g (withdrawal i j q) p (record { part = withElement κ g (element g i j) (withdrawn κ g (element g i j) q p) p; report = [] })
+    → Kept κ g (withdrawal i j q) p (record { part = withElement κ (element g i j) (withdrawn κ (element g i j) q p) p; report = [] })
 unfolding entry
 withdrawal-law κ g i j q p h on b =
     let e = element g i j in
     let he = on-grid-lt g i j on in
-    let x = withdrawn κ g e q p in
-    let width = length-withdrawn κ g e q p in
-    let small = remainder-withdrawn κ g e q p b (h .small e he) in
-    let holds = ap pos (held-withdrawn κ g e q p) ∙ sub-pos (mass κ p e) q b in
-    let fewer = sub-le (total κ g p) (total κ g (withElement κ g e x p)) q (total-of κ g e x p he width h small (negℤ (pos q)) holds) in
+    let x = withdrawn κ e q p in
+    let width = length-withdrawn κ e q p in
+    let small = remainder-withdrawn κ e q p b (h .small e he) in
+    let holds = ap pos (held-withdrawn κ e q p) ∙ sub-pos (mass κ p e) q b in
+    let fewer = sub-le (total κ g p) (total κ g (withElement κ e x p)) q (total-of κ g e x p he width h small (negℤ (pos q)) holds) in
     record {
       good = good-of κ g e x p he width h small (negℤ (pos q)) holds (omega (arith, h .bounded));
       books = λ e′ l. ap (λ y. pos (mass κ p e′) +ℤ y) (only-neg (eqb e e′) (pos q)) ∙ books-of κ g e x p he width h small (negℤ (pos q)) holds e′ l;

@@ -72,53 +72,53 @@ module _ (κ : Kind) (g : Shape) (e : ℕ) (x p : List ℕ) (he : e < elements g
   unfolding tracerLength
   room = omega (arith, part-room (elementLength κ) he)
 
-  pub length-withElement : length (withElement κ g e x p) ≡ tracerLength κ g
+  pub length-withElement : length (withElement κ e x p) ≡ tracerLength κ g
   unfolding withElement
   length-withElement = length-replaced (elementLength κ) e x p width room ∙ size
 
-  cell-there : (k : ℕ) → k < elementLength κ → cell κ (withElement κ g e x p) e k ≡ getD x k 0
+  cell-there : (k : ℕ) → k < elementLength κ → cell κ (withElement κ e x p) e k ≡ getD x k 0
   unfolding cell withElement
   cell-there k h = number-same (elementLength κ) e x p width room 0 k h
 
-  cell-elsewhere : (e′ : ℕ) → e ≢ e′ → (k : ℕ) → k < elementLength κ → cell κ (withElement κ g e x p) e′ k ≡ cell κ p e′ k
+  cell-elsewhere : (e′ : ℕ) → e ≢ e′ → (k : ℕ) → k < elementLength κ → cell κ (withElement κ e x p) e′ k ≡ cell κ p e′ k
   unfolding cell withElement
   cell-elsewhere e′ ne k h = number-other (elementLength κ) e x p width room 0 e′ k ne h
 
-  pub mass-there : mass κ (withElement κ g e x p) e ≡ held κ x
-  mass-there = mass-of κ (withElement κ g e x p) x e cell-there
+  pub mass-there : mass κ (withElement κ e x p) e ≡ held κ x
+  mass-there = mass-of κ (withElement κ e x p) x e cell-there
 
-  pub mass-elsewhere : (e′ : ℕ) → e ≢ e′ → mass κ (withElement κ g e x p) e′ ≡ mass κ p e′
-  mass-elsewhere e′ ne = mass-same κ (withElement κ g e x p) p e′ (cell-elsewhere e′ ne)
+  pub mass-elsewhere : (e′ : ℕ) → e ≢ e′ → mass κ (withElement κ e x p) e′ ≡ mass κ p e′
+  mass-elsewhere e′ ne = mass-same κ (withElement κ e x p) p e′ (cell-elsewhere e′ ne)
 
-  pub remainder-there : remainder κ (withElement κ g e x p) e ≡ getD x (κ .nodes) 0
-  remainder-there = remainder-of κ (withElement κ g e x p) x e cell-there
+  pub remainder-there : remainder κ (withElement κ e x p) e ≡ getD x (κ .nodes) 0
+  remainder-there = remainder-of κ (withElement κ e x p) x e cell-there
 
-  pub remainder-elsewhere : (e′ : ℕ) → e ≢ e′ → remainder κ (withElement κ g e x p) e′ ≡ remainder κ p e′
-  remainder-elsewhere e′ ne = remainder-same κ (withElement κ g e x p) p e′ (cell-elsewhere e′ ne)
+  pub remainder-elsewhere : (e′ : ℕ) → e ≢ e′ → remainder κ (withElement κ e x p) e′ ≡ remainder κ p e′
+  remainder-elsewhere e′ ne = remainder-same κ (withElement κ e x p) p e′ (cell-elsewhere e′ ne)
 
 -- ---- a loaded part
 module _ (κ : Kind) (g : Shape) (numbers : List ℕ) where
   abbrev laid : ℕ → List ℕ
-  laid e = table (κ .nodes) (loadedValue κ g numbers e) ++ (0 ∷ [])
+  laid e = table (κ .nodes) (loadedValue κ numbers e) ++ (0 ∷ [])
 
   length-laid : (e : ℕ) → length (laid e) ≡ elementLength κ
   unfolding elementLength
-  length-laid e = length-append (table (κ .nodes) (loadedValue κ g numbers e)) (0 ∷ []) ∙ omega (arith, length-table (κ .nodes) (loadedValue κ g numbers e))
+  length-laid e = length-append (table (κ .nodes) (loadedValue κ numbers e)) (0 ∷ []) ∙ omega (arith, length-table (κ .nodes) (loadedValue κ numbers e))
 
   laid-remainder : (e : ℕ) → getD (laid e) (κ .nodes) 0 ≡ 0
-  laid-remainder e = getD-at (table (κ .nodes) (loadedValue κ g numbers e)) 0 [] 0 (κ .nodes) (length-table (κ .nodes) (loadedValue κ g numbers e))
+  laid-remainder e = getD-at (table (κ .nodes) (loadedValue κ numbers e)) 0 [] 0 (κ .nodes) (length-table (κ .nodes) (loadedValue κ numbers e))
 
-  held-laid : (e : ℕ) → held κ (laid e) ≡ weighted κ (loadedValue κ g numbers e)
+  held-laid : (e : ℕ) → held κ (laid e) ≡ weighted κ (loadedValue κ numbers e)
   unfolding held weighted
-  held-laid e = ap₂ _+_ (sum-cong (κ .nodes) (λ k. κ .weight k * getD (laid e) k 0) (λ k. κ .weight k * loadedValue κ g numbers e k)
-      (λ k h. ap (λ y. κ .weight k * y) (List·getD-append (table (κ .nodes) (loadedValue κ g numbers e)) (0 ∷ []) 0 k (omega (arith, length-table (κ .nodes) (loadedValue κ g numbers e)))
-      ∙ getD-table (κ .nodes) (loadedValue κ g numbers e) k 0 h))) (laid-remainder e) ∙ add-zero (sum (κ .nodes) (λ k. κ .weight k * loadedValue κ g numbers e k))
+  held-laid e = ap₂ _+_ (sum-cong (κ .nodes) (λ k. κ .weight k * getD (laid e) k 0) (λ k. κ .weight k * loadedValue κ numbers e k)
+      (λ k h. ap (λ y. κ .weight k * y) (List·getD-append (table (κ .nodes) (loadedValue κ numbers e)) (0 ∷ []) 0 k (omega (arith, length-table (κ .nodes) (loadedValue κ numbers e)))
+      ∙ getD-table (κ .nodes) (loadedValue κ numbers e) k 0 h))) (laid-remainder e) ∙ add-zero (sum (κ .nodes) (λ k. κ .weight k * loadedValue κ numbers e k))
 
   pub length-loaded : length (loaded κ g numbers) ≡ tracerLength κ g
   unfolding loaded tracerLength
   length-loaded = length-blocks (elementLength κ) laid length-laid (elements g)
 
-  pub mass-loaded : (e : ℕ) → e < elements g → mass κ (loaded κ g numbers) e ≡ weighted κ (loadedValue κ g numbers e)
+  pub mass-loaded : (e : ℕ) → e < elements g → mass κ (loaded κ g numbers) e ≡ weighted κ (loadedValue κ numbers e)
   unfolding loaded
   mass-loaded e h = mass-blocks κ (elements g) laid length-laid e h ∙ held-laid e
 

@@ -49,14 +49,10 @@ pub record Called : Type 0 where
   pub reply : Answer (List ℤ)
   pub field : List ℕ
 
-module _ (κ : Kind) (g : Shape) where
-  -- "Load: nine u32 per element for one smoke, elements and nodes in field order; every element is replaced and ρ becomes 0"
+module _ (κ : Kind) where
+  -- the number that a load lays at node k of element e: "elements and nodes in field order"
   unfoldable pub loadedValue : List ℕ → ℕ → ℕ → ℕ
   loadedValue numbers e k = getD numbers (e * κ .nodes + k) 0
-
-  unfoldable pub loaded : List ℕ → List ℕ
-  unfolding loadedValue table blocks
-  loaded numbers = blocks (elements g) (λ e. table (κ .nodes) (loadedValue numbers e) ++ (0 ∷ []))
 
   -- a part with the numbers of element e replaced
   unfoldable pub withElement : ℕ → List ℕ → List ℕ → List ℕ
@@ -73,12 +69,18 @@ module _ (κ : Kind) (g : Shape) where
   unfolding closedUnlevelled mass cell
   withdrawn e q p = closedUnlevelled κ (λ k. pos (cell κ p e k)) (mass κ p e - q)
 
+module _ (κ : Kind) (g : Shape) where
+  -- "Load: nine u32 per element for one smoke ..; every element is replaced and ρ becomes 0"
+  unfoldable pub loaded : List ℕ → List ℕ
+  unfolding loadedValue table blocks
+  loaded numbers = blocks (elements g) (λ e. table (κ .nodes) (loadedValue κ numbers e) ++ (0 ∷ []))
+
   -- a tracer's part, and the report, after an accepted operation
   unfoldable pub done : Operation Lent → List ℕ → Stepped
   unfolding loaded withElement emitted withdrawn tracerStep
   done (load numbers) p = record { part = loaded numbers; report = [] }
-  done (emission i j q) p = record { part = withElement (element g i j) (emitted (element g i j) q p) p; report = [] }
-  done (withdrawal i j q) p = record { part = withElement (element g i j) (withdrawn (element g i j) q p) p; report = [] }
+  done (emission i j q) p = record { part = withElement κ (element g i j) (emitted κ (element g i j) q p) p; report = [] }
+  done (withdrawal i j q) p = record { part = withElement κ (element g i j) (withdrawn κ (element g i j) q p) p; report = [] }
   done (step l) p = tracerStep κ g (windAt (l .wind)) p
 
   -- 4, "a lent slice is shorter than needed", of what an operation is lent beside the field

@@ -29,7 +29,7 @@ unfolding weighted loadedValue carried
 -- "refused calls change nothing"
 entry κ g op (refused n) held e = held e
 -- "An accepted load sets every element of its smoke to the sum of ωaωb times the nodal numbers it lays there."
-entry κ g (load numbers) (accepted r) held e = pos (weighted κ (loadedValue κ g numbers e))
+entry κ g (load numbers) (accepted r) held e = pos (weighted κ (loadedValue κ numbers e))
 -- "An accepted emission of q adds q to its element of its smoke; an accepted withdrawal of q takes q off."
 entry κ g (emission i j q) (accepted r) held e = held e +ℤ only (eqb (element g i j) e) (pos q)
 entry κ g (withdrawal i j q) (accepted r) held e = held e -ℤ only (eqb (element g i j) e) (pos q)
