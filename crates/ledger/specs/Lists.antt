@@ -27,10 +27,10 @@ pub record Buffers : Type 0 where
   pub reportLength : ℕ
   pub workLength : ℕ
 
--- "The list starts with field and wind all zero": the state after the call Fresh, whatever the buffers held
+-- "The list starts with field and wind all zero": the state that an accepted call Fresh leaves, whatever the buffers held
 unfoldable pub fresh : Kind → Shape → List ℕ → List ℤ → State
 unfolding zeroField zeroWind
-fresh κ g field wind = record { field = zeroField κ g field; wind = zeroWind κ g wind }
+fresh κ g field wind = record { field = zeroField κ g field; wind = zeroWind g wind }
 
 -- the operation with what it is lent
 unfoldable pub lend : Buffers → List ℤ → Operation (Unit {0}) → Operation Lent

@@ -1,6 +1,6 @@
 -- The weights' table, and the sizes of the sums that the closing's loops make.
-use mathlib.Core.Path.{_≡_, refl, sym, ap, _∙_}
-use mathlib.Core.List.{List, [], _∷_, map}
+use mathlib.Core.Path.{_≡_, ap, _∙_}
+use mathlib.Core.List.{List, [], _∷_}
 use Prim.Native.Nat.{ℕ, _+_, _*_, _≤_, _<_}
 use native.Mathlib.Nat.{le-trans, mul-le-mul-left, mul-le-mul-right, one-mul}
 use native.Mathlib.Omega.{arith}
@@ -45,6 +45,7 @@ terms-within l n h k = within-le (within-sum n (term l) bound each) (sum-mono bo
   where
     bound : ℕ → ℕ
     bound i = getD weights i 0 * 9200000000
+
     each : (i : ℕ) → i < n → Within (bound i) (term l i)
     each i q = rw (signed-weight i) (within-mul (within-pos (getD weights i 0)) (h .small i (omega arith)))
 
@@ -91,5 +92,10 @@ module _ (l : List ℤ) (s : ℤ) (t : ℕ) where
 
   pub newValue-le : (k : ℕ) → k < 9 → newValue k ≤ t
   unfolding all
-  newValue-le k q = omega (arith, newSum-le (k + 1) (omega arith), sum-more k (λ k. getD weights k 0 * newValue k),
-    mul-le-mul-right (newValue k) (leb→le 1 (getD weights k 0) (all-at 9 (λ k. leb 1 (getD weights k 0)) tt k q)), one-mul (newValue k))
+  newValue-le k q = omega (
+    arith,
+    newSum-le (k + 1) (omega arith),
+    sum-more k (λ k. getD weights k 0 * newValue k),
+    mul-le-mul-right (newValue k) (leb→le 1 (getD weights k 0) (all-at 9 (λ k. leb 1 (getD weights k 0)) tt k q)),
+    one-mul (newValue k),
+  )

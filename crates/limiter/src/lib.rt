@@ -13,6 +13,7 @@ ghost use Rattle.rules.specs.Limiter.{meanShift, truncated, rescaled, closedUnl
 ghost use Rattle.limiter.specs.Sizes.{Tentative, Shift, at, shifted};
 
 const WEIGHTS: [u64; 9] = [1, 4, 1, 4, 16, 4, 1, 4, 1];
+
 const SIGNED_WEIGHTS: [i64; 9] = [1, 4, 1, 4, 16, 4, 1, 4, 1];
 
 // The weighted sum of nine signed values.

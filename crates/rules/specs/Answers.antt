@@ -25,7 +25,7 @@ pub record Check : Type 0 where
 abbrev pub check : ℕ → Bool → Check
 check n b = record { number = n; passes = b }
 
--- "Checks run in rising number, each only when those before it passed."
+-- "Checks run in rising number, each only when those before it passed.": the list of every call is in rising number
 unfoldable pub answer : {A : Type 0} → List Check → A → Answer A
 answer [] x = accepted x
 answer (c ∷ cs) x = cond (c .passes) (answer cs x) (refused (c .number))
@@ -62,6 +62,6 @@ abbrev pub reading : Reading → Answer ℕ
 reading (Reading.Number n) = accepted n
 reading (Reading.Refused r) = refused (number r)
 
-abbrev pub file-read : FileRead → Answer Shape
-file-read (FileRead.Found s) = accepted s
-file-read (FileRead.Refused r) = refused (number r)
+abbrev pub fileAnswer : FileRead → Answer Shape
+fileAnswer (FileRead.Found s) = accepted s
+fileAnswer (FileRead.Refused r) = refused (number r)

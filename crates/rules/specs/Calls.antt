@@ -10,12 +10,12 @@ use Rattle.whole.specs.Table.{table, blocks, overwrite}
 use Rattle.rules.specs.declared.Shape.{Shape}
 use Rattle.rules.specs.declared.Face.{Face}
 use Rattle.rules.specs.Answers.{Answer, accepted, refused, Check, check, answer, after}
-use Rattle.rules.specs.Field.{Kind, admitted, elements, faces, workLength, element, onGrid, elementLength, fieldLength, part, withPart, cell, mass, total, limit, sound}
+use Rattle.rules.specs.Field.{Kind, admitted, elements, faces, workNeeded, element, onGrid, elementLength, fieldLength, part, withPart, cell, mass, total, limit, sound}
 use Rattle.rules.specs.Limiter.{closed, closedUnlevelled}
-use Rattle.rules.specs.Grid.{face}
+use Rattle.rules.specs.Grid.{faceIndex}
 use Rattle.rules.specs.Step.{Stepped, tracerStep}
 
--- "−1024 to 1024"
+-- document 01, "Field": "−1024 to 1024"
 abbrev pub windInRange : ℤ → Bool
 windInRange c = leb (natAbs c) 1024
 
@@ -44,6 +44,11 @@ pub record Lent : Type 0 where
   pub reportLength : ℕ
   pub workLength : ℕ
 
+-- a wind of zeros
+unfoldable pub zeroWind : Shape → List ℤ → List ℤ
+unfolding overwrite
+zeroWind g wind = overwrite 0 (replicate (faces g) (pos 0)) wind
+
 -- what a call on a tracer answers, with the report where it is a step, and the field after it
 pub record Called : Type 0 where
   pub reply : Answer (List ℤ)
@@ -64,7 +69,7 @@ module _ (κ : Kind) where
   unfolding closed mass cell
   emitted e q p = closed κ (λ k. pos (cell κ p e k)) (mass κ p e + q)
 
-  -- and after a withdrawal of q: "T = M − q, closing without levelling"
+  -- and after a withdrawal of q: "T = M − q, closing without levelling". Check 10 has shown that q is at most M
   unfoldable pub withdrawn : ℕ → ℕ → List ℕ → List ℕ
   unfolding closedUnlevelled mass cell
   withdrawn e q p = closedUnlevelled κ (λ k. pos (cell κ p e k)) (mass κ p e - q)
@@ -88,7 +93,7 @@ module _ (κ : Kind) (g : Shape) where
   lentEnough (load numbers) = leb (elements g * κ .nodes) (length numbers)
   lentEnough (emission i j q) = true
   lentEnough (withdrawal i j q) = true
-  lentEnough (step l) = leb (faces g) (length (l .wind)) && (leb (faces g) (l .reportLength) && leb (workLength g) (l .workLength))
+  lentEnough (step l) = leb (faces g) (length (l .wind)) && (leb (faces g) (l .reportLength) && leb (workNeeded g) (l .workLength))
 
   -- 6, of the named tracer: one that is not there "has no numbers to search, so it passes here and meets 7"
   unfoldable pub soundIfThere : Bool → List ℕ → Bool
@@ -139,17 +144,13 @@ module _ (κ : Kind) (g : Shape) where
   unfolding overwrite fieldLength
   zeroField field = overwrite 0 (replicate (fieldLength κ g) 0) field
 
-  unfoldable pub zeroWind : List ℤ → List ℤ
-  unfolding overwrite
-  zeroWind wind = overwrite 0 (replicate (faces g) (pos 0)) wind
-
   unfoldable pub freshField : List ℕ → List ℤ → List ℕ
   unfolding freshReply zeroField after
   freshField field wind = after (freshReply field wind) (zeroField field) field
 
   unfoldable pub freshWind : List ℕ → List ℤ → List ℤ
   unfolding freshReply zeroWind after
-  freshWind field wind = after (freshReply field wind) (zeroWind wind) wind
+  freshWind field wind = after (freshReply field wind) (zeroWind g wind) wind
 
 -- the report buffer after a call: the report written over its front, "Surplus is left alone"
 unfoldable pub reportAfter : Answer (List ℤ) → List ℤ → List ℤ
@@ -166,4 +167,4 @@ module _ (g : Shape) where
 
   unfoldable pub windAfter : Face → List ℤ → List ℤ
   unfolding windReply after
-  windAfter f wind = after (windReply f wind) (set wind (face g (f .way) (f .i) (f .j)) (f .wind)) wind
+  windAfter f wind = after (windReply f wind) (set wind (faceIndex g (f .way) (f .i) (f .j)) (f .wind)) wind

@@ -26,8 +26,8 @@ abbrev pub faces : Shape → ℕ
 faces g = elements g + elements g
 
 -- "Work: 64·nx·ny"
-abbrev pub workLength : Shape → ℕ
-workLength g = 64 * elements g
+abbrev pub workNeeded : Shape → ℕ
+workNeeded g = 64 * elements g
 
 -- element (i, j) has the index j nx + i, "j outer, i inner"; it is there where i and j are on the grid
 abbrev pub element : Shape → ℕ → ℕ → ℕ
@@ -51,7 +51,7 @@ pub record Kind : Type 0 where
   pub lineWeight : ℕ → ℕ
   -- row q and column a of document 01's E
   pub derivative : ℕ → ℕ → ℤ
-  -- how often the west wind enters document 01's c of place q; the east wind enters the rest of 2 times
+  -- the west wind's factor in document 01's c of place q; the east wind's is 2 minus it
   pub westShare : ℕ → ℕ
   -- the factor of the upwind values in the tendency
   pub edgeFactor : ℕ
@@ -131,7 +131,7 @@ total κ g p = sum (elements g) (mass κ p)
 abbrev pub limit : ℕ
 limit = 100000000
 
--- no "remainder above 35" and no "total above 100,000,000"
+-- document 01, "Who meets which refusal", 6: no "remainder above 35" and no "total above 100,000,000"
 unfoldable pub sound : Kind → Shape → List ℕ → Bool
 unfolding remainder total weightSum all
 sound κ g p = all (elements g) (λ e. ltb (remainder κ p e) (weightSum κ)) && leb (total κ g p) limit

@@ -77,6 +77,11 @@ tailShape file = record { nx = byteAt file (length file - 12); ny = byteAt file 
 unfoldable pub tailRight : List ℕ → Bool
 tailRight file = leb 12 (length file) && (all 4 (λ i. eqb (byteAt file (length file - 4 + i)) (getD mark i 0)) && eqb (byteAt file (length file - 9)) 0)
 
+-- the wind that a file of shape g holds
+unfoldable pub fileWind : Shape → List ℕ → List ℤ
+unfolding table number16
+fileWind g file = table (faces g) (λ f. number16 file (2 * f))
+
 module _ (κ : Kind) where
   -- 3: "offsets or length differ from what the shape gives"
   unfoldable pub offsetsRight : Shape → List ℕ → Bool
@@ -84,11 +89,7 @@ module _ (κ : Kind) where
   offsetsRight g file = eqb (length file) (fileLength κ g)
       && (eqb (number32 file (length file - 8)) (tableStart κ g) && all (g .tracers + 1) (λ i. eqb (number32 file (tableStart κ g + 4 * i)) (sectionStart κ g i)))
 
-  -- the wind and the field that a file of shape g holds
-  unfoldable pub fileWind : Shape → List ℕ → List ℤ
-  unfolding table number16
-  fileWind g file = table (faces g) (λ f. number16 file (2 * f))
-
+  -- the field that a file of shape g holds
   unfoldable pub fileField : Shape → List ℕ → List ℕ
   unfolding table number32 fieldLength sectionStart
   fileField g file = table (fieldLength κ g) (λ i. number32 file (sectionStart κ g 1 + 4 * i))

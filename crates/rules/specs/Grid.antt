@@ -32,6 +32,6 @@ unfolding east north
 ahead g f = cond (looksEast g f) (east g f) (north g (f - elements g))
 
 -- "Which way a face looks is part of the call's record": where the face of element (i, j) that looks that way stands
-abbrev pub face : Shape → Way → ℕ → ℕ → ℕ
-face g East i j = element g i j
-face g North i j = northFace g (element g i j)
+abbrev pub faceIndex : Shape → Way → ℕ → ℕ → ℕ
+faceIndex g East i j = element g i j
+faceIndex g North i j = northFace g (element g i j)

@@ -29,7 +29,7 @@ truncated ψ k = positive (ψ k)
 unfoldable pub rescaled : ℕ → ℕ → ℕ → ℕ
 rescaled p t v = cond (leb p t) v (v * t / p)
 
--- 3 and 4 of the values v: "Let P be the weighted sum now"; "ρ = T minus the weighted sum"
+-- 3 and 4 of the values v: "Let P be the weighted sum now"; "ρ = T minus the weighted sum", which is at most T (`values-le`)
 unfoldable pub rescaledValue : Kind → (ℕ → ℕ) → ℕ → ℕ → ℕ
 unfolding rescaled weighted
 rescaledValue κ v t k = rescaled (weighted κ v) t (v k)

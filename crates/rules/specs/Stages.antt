@@ -55,7 +55,7 @@ module _ (κ : Kind) (g : Shape) (c : ℕ → ℤ) (φ : ℕ → ℕ → ℤ) wh
   alongY e a b = advection κ (λ q. φ e (node κ a q)) (c (northFace g (south g e))) (c (northFace g e))
       (upwind κ g c φ (northFace g (south g e)) a) (upwind κ g c φ (northFace g e) a) b
 
-  -- "t(a, b) = floor((ωb·X + ωa·Y) / (8192·ωaωb))", at node k of element e
+  -- "t(a, b) = floor((ωb·X + ωa·Y) / (8192·ωaωb))", at node k of element e; 8192 is the same for every kind of element
   unfoldable pub tendency : ℕ → ℕ → ℤ
   unfolding alongX alongY
   tendency e k =
@@ -63,7 +63,7 @@ module _ (κ : Kind) (g : Shape) (c : ℕ → ℤ) (φ : ℕ → ℕ → ℤ) wh
       let b = k / κ .side in
       floorDiv (pos (κ .lineWeight b) *ℤ alongX e a b +ℤ pos (κ .lineWeight a) *ℤ alongY e a b) (8192 * (κ .lineWeight a * κ .lineWeight b))
 
--- a function of an element and a node, computed once for n elements
+-- f e k for e < n and k < nodes, computed once
 unfoldable pub tabulated : Kind → ℕ → (ℕ → ℕ → ℤ) → ℕ → ℕ → ℤ
 unfolding table
 tabulated κ n f =

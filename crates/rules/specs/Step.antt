@@ -22,7 +22,7 @@ report κ g c p s =
     let outflows : List ℕ = table (elements g) (outflow g donors G) in
     table (faces g) (limitedFlux donors (mass κ p) G (λ e. getD outflows e 0))
 
--- "Close with ψ and T": every element, for a report. T is not below 0.
+-- "Close with ψ and T": every element, for a report. T is never below 0 (`target-above`), so its positive part is T.
 unfoldable pub finish : Kind → Shape → List ℕ → Stages → List ℤ → List ℕ
 unfolding blocks closed target mass positive
 finish κ g p s r = blocks (elements g) (λ e. closed κ (s .ψ e) (positive (target g (mass κ p) (λ f. getD r f (pos 0)) e)))

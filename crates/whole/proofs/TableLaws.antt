@@ -68,9 +68,9 @@ module _ {ℓ} {A : Type ℓ} where
   -- ---- a loop that fills a list from the front: the first n entries are the table's, the others as they were
   pub fill-more : (n : ℕ) (f : ℕ → A) (l : List A) → n < length l → set (table n f ++ drop n l) n (f n) ≡ table (n + 1) f ++ drop (n + 1) l
   fill-more n f l h = ap (λ x. set (table n f ++ x) n (f n)) (drop-cons l n (f n) h) ∙ set-at (table n f) (getD l n (f n)) (drop (suc n) l) (f n) n (length-table n f)
-    ∙ sym (rw (table-more n f, add-one n) (append-assoc (table n f) (f n ∷ []) (drop (suc n) l)))
+      ∙ sym (rw (table-more n f, add-one n) (append-assoc (table n f) (f n ∷ []) (drop (suc n) l)))
 
   -- and the last entry of the list is set
   pub fill-last : (n : ℕ) (f : ℕ → A) (l : List A) (x : A) → length l ≡ n + 1 → set (table n f ++ drop n l) n x ≡ table n f ++ (x ∷ [])
   fill-last n f l x h = ap (λ y. set (table n f ++ y) n x) (drop-cons l n x (omega arith)) ∙ set-at (table n f) (getD l n x) (drop (suc n) l) x n (length-table n f)
-    ∙ ap (λ y. table n f ++ (x ∷ y)) (drop-of-length-le l {i = suc n} (omega arith))
+      ∙ ap (λ y. table n f ++ (x ∷ y)) (drop-of-length-le l {i = suc n} (omega arith))

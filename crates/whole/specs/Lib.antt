@@ -1,4 +1,4 @@
--- Whole numbers: their two parts, sums, tables, and bounds that a search computes.
+-- Whole numbers: their two parts, sums, tables, and the bounds and divisions that contracts state.
 pub mod Parts
 pub mod Sum
 pub mod Table

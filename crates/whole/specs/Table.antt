@@ -13,6 +13,6 @@ unfoldable pub table {ℓ} : {A : Type ℓ} → ℕ → (ℕ → A) → List A
 table zero f = []
 table (suc n) f = table n f ++ (f n ∷ [])
 
--- ys written over xs from place n on; the rest is left alone
+-- ys written over xs from place n on; the rest is left alone (a list that is too short becomes longer)
 unfoldable pub overwrite {ℓ} : {A : Type ℓ} → ℕ → List A → List A → List A
 overwrite n ys xs = take n xs ++ (ys ++ drop (length ys) (drop n xs))

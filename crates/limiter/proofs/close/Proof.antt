@@ -1,13 +1,12 @@
-use mathlib.Core.Path.{_≡_, sym, ap, subst, _∙_}
+use mathlib.Core.Path.{sym, ap, subst, _∙_}
 use borrow.Author.Needs.{needs}
 use mir.Syntax.{w64}
-use mir.Val.{toZ, ofZ}
-use Rattle.whole.specs.Bound.{Within, Are}
+use Rattle.whole.specs.Bound.{Within}
 use Rattle.whole.proofs.BoundLaws.{within-back}
 use Rattle.whole.proofs.Sizes.{back-is}
 use Rattle.rules.specs.Field.{quadratic}
-use Rattle.rules.specs.Limiter.{meanShift, closed, adjusted, closedUnlevelled}
-use Rattle.limiter.specs.Sizes.{at, shifted}
+use Rattle.rules.specs.Limiter.{closed, adjusted, closedUnlevelled}
+use Rattle.limiter.specs.Sizes.{shifted}
 use Rattle.limiter.proofs.close.Statement.{statement}
 use Rattle.limiter.proofs.close.Tie as tie
 
@@ -19,7 +18,7 @@ shift-small : (c : tie.After-mean-shift) → Within 9213888890 (c .mean-shift .r
 shift-small c = subst (Within 9213888890) (sym (c .mean-shift .ensures .same)) (c .mean-shift .ensures .bound)
 
 close-shifted-requires : tie.Need-close-shifted-requires
-close-shifted-requires c κs = 
+close-shifted-requires c κs =
     let b = c .before .before .before in
     (b .pre .0, (b .pre .1 .0, (record { small = within-back w64 _ (shift-small (c .before)) }, b .pre .1 .1)))
 
@@ -28,7 +27,7 @@ same-length c = search needs
 
 returns : tie.Need-returns
 unfolding closed adjusted
-returns c = 
+returns c =
     let b = c .before .before .before .before in
     let a = b .before .before .args in
     c .before .before .close-shifted .ensures ∙ ap (λ z. closedUnlevelled quadratic (shifted (a .psi .now) z) (a .target)) (back-is w64 _ (shift-small b) tt ∙ b .mean-shift .ensures .same)

@@ -20,7 +20,7 @@ use Rattle.whole.proofs.Sizes.{back-is}
 use Rattle.rules.specs.Field.{quadratic, weighted}
 use Rattle.rules.specs.Limiter.{truncated, rescaledValue, closingRemainder, closedUnlevelled}
 use Rattle.limiter.specs.Sizes.{Shift, shifted}
-use Rattle.limiter.proofs.Laws.{weights, cutValue, cutValue-le, newValue, newSum, newSum-all, newSum-le, newValue-le}
+use Rattle.limiter.proofs.Laws.{weights, cutValue, newValue, newSum, newSum-all, newSum-le, newValue-le}
 use Rattle.limiter.proofs.close_shifted.Statement.{statement}
 use Rattle.limiter.proofs.close_shifted.Tie as tie
 
@@ -74,11 +74,11 @@ next c =
     let s = toZ w64 (ofZ w64 (a .shift)) in
     let l = c .before .before .before .before .loop in
     let e : l .sum + getD weights (l .k) 0 * c .rescale .result ≡ newSum (a .psi .now) s (a .target) (l .k + 1) =
-        rw (stored c, l .inv .2) (sym (sum-more (l .k) (λ k. getD weights k 0 * newValue (a .psi .now) s (a .target) k))) in
+    rw (stored c, l .inv .2) (sym (sum-more (l .k) (λ k. getD weights k 0 * newValue (a .psi .now) s (a .target) k))) in
     (e, omega (arith, e, newSum-le (a .psi .now) s (a .target) (l .k + 1) (omega arith)))
 
 cast-part : tie.Need-cast-part Inv-loop μ-loop
-cast-part c = 
+cast-part c =
     let b = c .before .before .before .before .before .before .before in
     let s = toZ w64 (ofZ w64 (b .args .shift)) in
     record { fits = omega (arith, stored c, newValue-le (b .args .psi .now) s (b .args .target) (c .before .before .before .before .loop .k) (omega arith), b .pre .1 .1 .1) }
@@ -108,7 +108,7 @@ loop-less : tie.Need-loop-less Inv-loop μ-loop
 loop-less c = search needs
 
 loop-again : tie.Need-loop-again Inv-loop μ-loop
-loop-again c = 
+loop-again c =
     let a = c .before .before .before .before .before .before .before .args in
     let s = toZ w64 (ofZ w64 (a .shift)) in
     let l = c .before .before .before .before .loop in
@@ -138,7 +138,7 @@ same-length c = rw length-set (c .before .loop .inv .1 ∙ sym (c .before .befor
 
 returns : tie.Need-returns Inv-loop μ-loop
 unfolding closedUnlevelled closingRemainder quadratic
-returns c = 
+returns c =
     let b = c .before .before .before .before in
     let a = b .args in
     let s = toZ w64 (ofZ w64 (a .shift)) in

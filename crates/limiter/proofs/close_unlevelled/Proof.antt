@@ -1,9 +1,9 @@
-use mathlib.Core.Path.{_≡_, ap, _∙_}
+use mathlib.Core.Path.{_∙_}
 use borrow.Author.Needs.{needs}
-use lib.IntN.{ℤ, pos, +ℤ-idr}
+use lib.IntN.{+ℤ-idr}
 use Rattle.rules.specs.Field.{quadratic}
 use Rattle.rules.specs.Limiter.{closedUnlevelled}
-use Rattle.limiter.specs.Sizes.{shifted, at}
+use Rattle.limiter.specs.Sizes.{at}
 use Rattle.limiter.proofs.close_unlevelled.Statement.{statement}
 use Rattle.limiter.proofs.close_unlevelled.Tie as tie
 
@@ -14,7 +14,7 @@ same-length : tie.Need-same-length
 same-length c = search needs
 
 returns : tie.Need-returns
-returns c = 
+returns c =
     let a = c .before .before .before .before .before .args in
     c .before .before .close-shifted .ensures ∙ (λ i. closedUnlevelled quadratic (λ k. +ℤ-idr (at (a .psi .now) k) i) (a .target))
 

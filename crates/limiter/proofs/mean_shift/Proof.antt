@@ -37,7 +37,7 @@ floor-div-requires c κs = let t = target-is c in let s = c .weighted-sum .ensur
 
 returns : tie.Need-returns
 unfolding meanShift weightSum quadratic sum
-returns c = 
+returns c =
     let b = c .before in
     let p = b .before .args .psi .now in
     let d = pos (b .before .args .target) -ℤ sumℤ 9 (λ k. pos (quadratic .weight k) *ℤ at p k) in

@@ -58,7 +58,7 @@ next c =
     let s = toZ w64 (ofZ w64 (a .shift)) in
     let k = c .before .before .before .loop .k in
     let e : cutSum (a .psi .now) s (k + 1) ≡ c .before .before .before .loop .sum + getD weights k 0 * c .truncate .result =
-        rw (value c, c .before .before .before .loop .inv .1) (sum-more k (λ k. getD weights k 0 * cutValue (a .psi .now) s k)) in
+    rw (value c, c .before .before .before .loop .inv .1) (sum-more k (λ k. getD weights k 0 * cutValue (a .psi .now) s k)) in
     (e, omega (arith, e, cutSum-le (a .psi .now) s (c .before .before .before .before .pre .0) (shift-small (c .before)) (k + 1) (omega arith)))
 
 mul-sum : tie.Need-mul-sum Inv-loop μ-loop
@@ -83,7 +83,7 @@ loop-again : tie.Need-loop-again Inv-loop μ-loop
 loop-again c = (omega arith, sym (next c .0))
 
 returns : tie.Need-returns Inv-loop μ-loop
-returns c = 
+returns c =
     let a = c .before .before .args in
     let e : c .before .loop .k ≡ 9 = omega arith in
     (rw e at (c .before .loop .inv .1)) ∙ (rw (toZ-ofZ (c .before .before .fits .shift)) (cutSum-all (a .psi .now) (a .shift)))

@@ -53,7 +53,7 @@ loop-less : tie.Need-loop-less Inv-loop μ-loop
 loop-less c = search needs
 
 loop-again : tie.Need-loop-again Inv-loop μ-loop
-loop-again c = 
+loop-again c =
     let h = value c in
     let s = c .before .before .before .loop .inv .1 in
     let l = c .before .before .before .before .args .psi .now in
