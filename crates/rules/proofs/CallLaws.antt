@@ -36,7 +36,7 @@ on-grid-lt g i j t =
 
 -- ---- the numbers of an element after an emission and after a withdrawal
 module _ (κ : Kind) (e q : ℕ) (p : List ℕ) where
-  length-emitted : length (emitted κ e q p) ≡ elementLength κ
+  pub length-emitted : length (emitted κ e q p) ≡ elementLength κ
   unfolding emitted
   length-emitted = length-closed κ (λ k. pos (cell κ p e k)) (mass κ p e + q)
 
@@ -48,7 +48,7 @@ module _ (κ : Kind) (e q : ℕ) (p : List ℕ) where
   unfolding emitted
   remainder-emitted hw = remainder-closed κ (λ k. pos (cell κ p e k)) (mass κ p e + q) hw
 
-  length-withdrawn : length (withdrawn κ e q p) ≡ elementLength κ
+  pub length-withdrawn : length (withdrawn κ e q p) ≡ elementLength κ
   unfolding withdrawn
   length-withdrawn = closed-length κ (λ k. pos (cell κ p e k)) (mass κ p e - q)
 

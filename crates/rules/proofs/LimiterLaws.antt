@@ -1,20 +1,21 @@
 -- The closing's laws, for any number of nodes whose weights sum to more than 0.
 use mathlib.Core.Path.{_≡_, ap, _∙_}
-use mathlib.Core.List.{[], _∷_}
+use mathlib.Core.List.{[], _∷_, _++_}
 use Prim.Native.Nat.{ℕ, _+_, _*_, _-_, _≤_, _<_}
 use native.Mathlib.Nat.{mul-add, mul-le-mul-left}
 use native.Mathlib.Omega.{arith}
 use lib.IntN.{ℤ, pos, _+ℤ_, _-ℤ_, _*ℤ_}
 use lib.ListN.{length, getD, length-append, List·getD-append}
 use lib.Seq.{getD-at}
+use Rattle.whole.specs.Bound.{floorDiv}
 use Rattle.whole.specs.Parts.{positive, negative}
 use Rattle.whole.specs.Sum.{sum, sumℤ}
 use Rattle.whole.specs.Table.{table}
 use Rattle.whole.proofs.WholeLaws.{positive-pos, negative-pos, add-parts, sub-parts-of, floor-above}
-use Rattle.whole.proofs.SumLaws.{sum-le, sum-cong, sum-add, sum-mul-right, weighted-parts, term-le}
-use Rattle.whole.proofs.TableLaws.{length-table, getD-table}
+use Rattle.whole.proofs.SumLaws.{sum-le, sum-cong, sum-add, sum-mul-right, weighted-parts, term-le, sumℤ-cong}
+use Rattle.whole.proofs.TableLaws.{length-table, getD-table, table-cong}
 use Rattle.rules.specs.Field.{Kind, weightSum, weighted, elementLength}
-use Rattle.rules.specs.Limiter.{meanShift, adjusted, truncated, rescaledValue, closingRemainder, closedUnlevelled}
+use Rattle.rules.specs.Limiter.{meanShift, adjusted, truncated, rescaled, rescaledValue, closingRemainder, closedUnlevelled, closed}
 use Rattle.rules.proofs.RescalingLaws.{rescaled-le, rescaled-near}
 
 -- one node or more, with positive weights, sum to more than 0
@@ -110,3 +111,27 @@ module _ (κ : Kind) (ψ : ℕ → ℤ) (t : ℕ) where
     closing-sum κ (truncated ψ) t,
     sum-cong (κ .nodes) (λ k. κ .weight k * getD (closedUnlevelled κ ψ t) k 0) (λ k. κ .weight k * values k) (λ k h. ap (λ x. κ .weight k * x) (closed-value k h)),
   )
+
+-- ---- the closing reads its nodes only
+module _ (κ : Kind) where
+  pub weighted-cong : (v w : ℕ → ℕ) → ((k : ℕ) → k < κ .nodes → v k ≡ w k) → weighted κ v ≡ weighted κ w
+  unfolding weighted
+  weighted-cong v w h = sum-cong (κ .nodes) (λ k. κ .weight k * v k) (λ k. κ .weight k * w k) (λ k l. ap (λ x. κ .weight k * x) (h k l))
+
+  values-cong : (v w : ℕ → ℕ) (t : ℕ) → ((k : ℕ) → k < κ .nodes → v k ≡ w k) → (k : ℕ) → k < κ .nodes → rescaledValue κ v t k ≡ rescaledValue κ w t k
+  unfolding rescaledValue
+  values-cong v w t h k l = λ i. rescaled (weighted-cong v w h i) t (h k l i)
+
+  pub unlevelled-cong : (ψ χ : ℕ → ℤ) (t : ℕ) → ((k : ℕ) → k < κ .nodes → ψ k ≡ χ k) → closedUnlevelled κ ψ t ≡ closedUnlevelled κ χ t
+  unfolding closedUnlevelled closingRemainder truncated
+  unlevelled-cong ψ χ t h =
+      let cut : (k : ℕ) → k < κ .nodes → truncated ψ k ≡ truncated χ k = λ k l. ap positive (h k l) in
+      λ i. table-cong (κ .nodes) (rescaledValue κ (truncated ψ) t) (rescaledValue κ (truncated χ) t) (values-cong (truncated ψ) (truncated χ) t cut) i
+      ++ ((t - weighted-cong (rescaledValue κ (truncated ψ) t) (rescaledValue κ (truncated χ) t) (values-cong (truncated ψ) (truncated χ) t cut) i) ∷ [])
+
+  pub closed-cong : (ψ χ : ℕ → ℤ) (t : ℕ) → ((k : ℕ) → k < κ .nodes → ψ k ≡ χ k) → closed κ ψ t ≡ closed κ χ t
+  unfolding closed adjusted meanShift
+  closed-cong ψ χ t h = unlevelled-cong (adjusted κ ψ t) (adjusted κ χ t) t (λ k l. λ i. h k l i +ℤ floorDiv (pos t -ℤ sums i) (weightSum κ))
+    where
+      sums : sumℤ (κ .nodes) (λ k. pos (κ .weight k) *ℤ ψ k) ≡ sumℤ (κ .nodes) (λ k. pos (κ .weight k) *ℤ χ k)
+      sums = sumℤ-cong (κ .nodes) (λ k. pos (κ .weight k) *ℤ ψ k) (λ k. pos (κ .weight k) *ℤ χ k) (λ k l. ap (λ x. pos (κ .weight k) *ℤ x) (h k l))

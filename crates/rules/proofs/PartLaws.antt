@@ -127,6 +127,12 @@ module _ (κ : Kind) (g : Shape) (numbers : List ℕ) where
   remainder-loaded e h = remainder-blocks κ (elements g) laid length-laid e h ∙ laid-remainder e
 
 -- ---- totals, and the sizes of what is stored
+module _ (κ : Kind) (p : List ℕ) where
+  -- a stored value with a weight above 0 is at most its element's mass
+  pub value-le-mass : (e k : ℕ) → k < κ .nodes → 0 < κ .weight k → cell κ p e k ≤ mass κ p e
+  unfolding mass weighted
+  value-le-mass e k h w = omega (arith, mul-le-mul-right (cell κ p e k) w, one-mul (cell κ p e k), term-le (κ .nodes) (λ k. κ .weight k * cell κ p e k) k h)
+
 module _ (κ : Kind) (g : Shape) (p : List ℕ) where
   pub total-pos : sumℤ (elements g) (λ e. pos (mass κ p e)) ≡ pos (total κ g p)
   unfolding total
@@ -140,14 +146,9 @@ module _ (κ : Kind) (g : Shape) (p : List ℕ) where
   unfolding total
   mass-le-total e h = term-le (elements g) (mass κ p) e h
 
-  -- a stored value with a weight above 0 is at most its element's mass
-  pub value-le-mass : (e k : ℕ) → k < κ .nodes → 0 < κ .weight k → cell κ p e k ≤ mass κ p e
-  unfolding mass weighted
-  value-le-mass e k h w = omega (arith, mul-le-mul-right (cell κ p e k) w, one-mul (cell κ p e k), term-le (κ .nodes) (λ k. κ .weight k * cell κ p e k) k h)
-
   -- so every stored value of a good part is at most the limit, and fits its 32 bits
   pub value-le-limit : Good κ g p → (e k : ℕ) → e < elements g → k < κ .nodes → 0 < κ .weight k → cell κ p e k ≤ limit
-  value-le-limit h e k he hk w = omega (arith, value-le-mass e k hk w, mass-le-total e he, h .bounded)
+  value-le-limit h e k he hk w = omega (arith, value-le-mass κ p e k hk w, mass-le-total e he, h .bounded)
 
 -- ---- the parts of a field that is long enough
 pub part-length : (κ : Kind) (g : Shape) (s : ℕ) (field : List ℕ) → s < g .tracers → fieldLength κ g ≤ length field → length (part κ g s field) ≡ tracerLength κ g

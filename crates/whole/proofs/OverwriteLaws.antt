@@ -1,14 +1,16 @@
 -- A list written over another: lengths, numbers, and the parts of equal width w into which the list is divided.
-use mathlib.Core.Path.{_≡_, sym, ap, _∙_}
-use mathlib.Core.List.{List, _++_}
+use mathlib.Core.Path.{_≡_, refl, sym, ap, _∙_}
+use mathlib.Core.List.{List, [], _∷_, _++_, append-assoc}
 use mathlib.Core.Logic.{_≢_}
-use Prim.Native.Nat.{ℕ, _+_, _*_, _-_, _≤_, _<_, min}
+use Prim.Native.Nat.{ℕ, zero, suc, _+_, _*_, _-_, _≤_, _<_, min}
 use native.Mathlib.Nat.{suc-mul, mul-le-mul-right}
 use native.Mathlib.Decide.{decLt}
+use native.Mathlib.Numerals.{add-one}
 use native.Mathlib.Omega.{arith}
-use lib.ListN.{length, getD, take, drop, length-append, length-take, length-drop, List·getD-append}
-use lib.Seq.{length-take-le, drop-at, take-at, getD-append-add, getD-take, getD-drop, ext-getD}
-use Rattle.whole.specs.Table.{overwrite}
+use lib.ListN.{length, getD, take, drop, take-append-drop, replicate, replicate-append-replicate, length-append, length-take, length-drop, List·getD-append}
+use lib.Seq.{take-take, take-add, drop-drop, drop-append-le, length-take-le, drop-at, take-at, getD-append-add, getD-take, getD-drop, ext-getD}
+use Rattle.whole.specs.Table.{table, overwrite}
+use Rattle.whole.proofs.TableLaws.{length-table}
 
 -- part s of width w ends within parts 0 .. n − 1
 pub part-room : (w : ℕ) {s n : ℕ} → s < n → s * w + w ≤ n * w
@@ -72,3 +74,34 @@ module _ {ℓ} {A : Type ℓ} (w s : ℕ) (ys xs : List A) (width : length ys �
 
       read : (l : List A) (i : ℕ) → i < w → getD (take w (drop (s′ * w) l)) i d ≡ getD l (s′ * w + i) d
       read l i k = getD-take w (drop (s′ * w) l) i d k ∙ getD-drop (s′ * w) l i d
+
+-- ---- written over the front
+module _ {ℓ} {A : Type ℓ} where
+  pub front-is : (ys xs : List A) → overwrite 0 ys xs ≡ ys ++ drop (length ys) xs
+  unfolding overwrite
+  front-is ys xs = refl
+
+  -- a loop that filled the first n entries
+  pub filled-front : (n : ℕ) (f : ℕ → A) (l : List A) → table n f ++ drop n l ≡ overwrite 0 (table n f) l
+  filled-front n f l = ap (λ k. table n f ++ drop k l) (sym (length-table n f)) ∙ sym (front-is (table n f) l)
+
+  pub table-const : (n : ℕ) (a : A) → table n (λ _. a) ≡ replicate n a
+  unfolding table
+  table-const zero a = refl
+  table-const (suc n) a = ap (λ l. l ++ (a ∷ [])) (table-const n a) ∙ replicate-append-replicate n 1 a ∙ ap (λ k. replicate k a) (add-one n)
+
+-- a part written within a part: b numbers into the n from place a on
+pub overwrite-part : {A : Type 0} (a n b : ℕ) (x l : List A) → a + n ≤ length l → b + length x ≤ n
+    → overwrite a (overwrite b x (take n (drop a l))) l ≡ overwrite (a + b) x l
+unfolding overwrite
+overwrite-part a n b x l room fits =
+    let d = drop a l in
+    let p = take n d in
+    let w = length x in
+    let len : length p ≡ n = length-take-le n d (omega (arith, length-drop a l)) in
+    let all : length (overwrite b x p) ≡ n = length-overwrite b x p (omega (arith, len)) ∙ len in
+    let front : take b p ≡ take b d = take-take b n d (omega arith) in
+    let back : drop w (drop b p) ++ drop n d ≡ drop w (drop (a + b) l) =
+    ap (λ y. y ++ drop n d) (drop-drop w b p) ∙ sym (drop-append-le (b + w) p (drop n d) (omega (arith, len)))
+    ∙ ap (drop (b + w)) (take-append-drop n d) ∙ sym (drop-drop w b d) ∙ ap (drop w) (drop-drop b a l) in
+    rw (all, front, take-add a b l) (simp append-assoc (ap (λ y. take a l ++ (take b d ++ (x ++ y))) back))

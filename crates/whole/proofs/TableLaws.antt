@@ -1,14 +1,14 @@
 -- Laws of tables: their length, a number of theirs, and one more entry.
 use mathlib.Core.Path.{_≡_, refl, sym, ap, subst, _∙_}
 use mathlib.Core.List.{List, [], _∷_, _++_, append-assoc}
-use Prim.Native.Nat.{ℕ, zero, suc, _+_, _*_, _<_}
+use Prim.Native.Nat.{ℕ, zero, suc, _+_, _*_, _≤_, _<_}
 use native.Mathlib.Nat.{add-zero, mul-one, suc-mul}
 use native.Mathlib.Decide.{ℕ-discrete, decLt}
 use native.Mathlib.Numerals.{add-one}
 use native.Mathlib.Omega.{arith}
 use lib.Arith.{digits-lt}
-use lib.ListN.{length, getD, set, drop, drop-of-length-le, length-append, List·getD-append, List·getD-eq-default}
-use lib.Seq.{getD-append-add, drop-cons, set-at}
+use lib.ListN.{length, getD, set, take, drop, length-drop, drop-of-length-le, length-append, List·getD-append, List·getD-eq-default}
+use lib.Seq.{getD-append-add, drop-cons, set-at, take-at, drop-at, drop-drop}
 use Rattle.whole.specs.Table.{blocks, table}
 
 module _ {ℓ} {A : Type ℓ} where
@@ -74,3 +74,16 @@ module _ {ℓ} {A : Type ℓ} where
   pub fill-last : (n : ℕ) (f : ℕ → A) (l : List A) (x : A) → length l ≡ n + 1 → set (table n f ++ drop n l) n x ≡ table n f ++ (x ∷ [])
   fill-last n f l x h = ap (λ y. set (table n f ++ y) n x) (drop-cons l n x (omega arith)) ∙ set-at (table n f) (getD l n x) (drop (suc n) l) x n (length-table n f)
       ∙ ap (λ y. table n f ++ (x ∷ y)) (drop-of-length-le l {i = suc n} (omega arith))
+
+  -- a loop that fills a list by blocks of width w: block e is written where the first e blocks end
+  pub fill-block : (w : ℕ) (f : ℕ → List A) (each : (e : ℕ) → length (f e) ≡ w) (e k : ℕ) (x l p : List A) → k ≡ w → x ≡ f e → p ≡ blocks e f ++ drop (e * w) l
+      → take (e * w) p ++ (x ++ drop k (drop (e * w) p)) ≡ blocks (e + 1) f ++ drop ((e + 1) * w) l
+  fill-block w f each e k x l p hk hx hp =
+      let front : take (e * w) p ≡ blocks e f = rw hp (take-at (blocks e f) (drop (e * w) l) (e * w) (length-blocks w f each e)) in
+      let back : drop (e * w) p ≡ drop (e * w) l = rw hp (drop-at (blocks e f) (drop (e * w) l) (e * w) (length-blocks w f each e)) in
+      let n : e * w + w ≡ (e + 1) * w = sym (rw (add-one e) (suc-mul e w)) in
+      rw (front, back, hk, hx, blocks-more e f) (ap (λ y. blocks e f ++ (f e ++ y)) (drop-drop w (e * w) l ∙ ap (λ m. drop m l) n) ∙ sym (append-assoc (blocks e f) (f e) (drop ((e + 1) * w) l)))
+
+  -- the length of a list whose first e blocks are filled
+  pub length-filled : (w : ℕ) (f : ℕ → List A) (each : (e : ℕ) → length (f e) ≡ w) (e : ℕ) (l : List A) → e * w ≤ length l → length (blocks e f ++ drop (e * w) l) ≡ length l
+  length-filled w f each e l h = length-append (blocks e f) (drop (e * w) l) ∙ omega (arith, length-blocks w f each e, length-drop (e * w) l)

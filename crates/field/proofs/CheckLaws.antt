@@ -1,0 +1,215 @@
+-- The calls' checks: what the reading of a tracer's total, which every call on a sound tracer begins with, says of the call.
+use mathlib.Core.Path.{_≡_, refl, sym, ap, _∙_}
+use mathlib.Core.Bool.{Bool, true, false, _&&_, cond}
+use mathlib.Core.List.{List, [], _∷_, _++_}
+use Prim.Native.Nat.{ℕ, _+_, _≤_, _<_}
+use native.Mathlib.Omega.{arith}
+use borrow.Author.Tests.{lt-leb, le-leb, lt-ltb, le-ltb}
+use lib.Dec.{T, leb, ltb, leb→le, ltb→lt}
+use lib.IntN.{ℤ}
+use lib.ListN.{length}
+use Rattle.whole.specs.Sum.{all}
+use Rattle.whole.proofs.Cases.{both-yes}
+use Rattle.rules.specs.declared.Shape.{Shape}
+use Rattle.rules.specs.Answers.{Answer, accepted, refused, Check, check, answer, after, plain}
+use Rattle.rules.specs.Field.{quadratic, admitted, elements, element, onGrid, fieldLength, part, withPart, remainder, weightSum, mass, total, limit, sound}
+use Rattle.rules.specs.Calls.{Operation, emission, withdrawal, Lent, lentEnough, soundIfThere, checks, done, call, massReading, totalReading}
+use Rattle.field.specs.Places.{Inside}
+use Rattle.field.specs.Search.{searched}
+use Rattle.field.specs.declared.search.Total.the-variants.{Sum, Unsound}
+use Rattle.rules.proofs.AnswerLaws.{answer-ind}
+use Rattle.rules.proofs.FieldLaws.{Ranges, ranges}
+use Rattle.field.proofs.PlaceLaws.{sized}
+
+-- ---- answers of a list of checks that another list goes on
+pub prefix-refused : {A B : Type 0} (cs ds : List Check) (x : A) (y : B) (n : ℕ) → answer cs x ≡ refused n → answer (cs ++ ds) y ≡ refused n
+unfolding answer
+prefix-refused [] ds x y n e = let z : _≡_ {A = ℕ} 0 1 = cc in absurd (omega arith)
+prefix-refused (c ∷ cs) ds x y n e = go (c .passes) (prefix-refused cs ds x y n) e
+  where
+    go : (b : Bool) → (answer cs x ≡ refused n → answer (cs ++ ds) y ≡ refused n) → cond b (answer cs x) (refused (c .number)) ≡ refused n
+        → cond b (answer (cs ++ ds) y) (refused (c .number)) ≡ refused n
+    go true ih h = ih h
+    go false ih h = cc
+
+pub prefix-accepted : {A B : Type 0} (cs ds : List Check) (x z : A) (y : B) → answer cs x ≡ accepted z → answer (cs ++ ds) y ≡ answer ds y
+unfolding answer
+prefix-accepted [] ds x z y e = refl
+prefix-accepted (c ∷ cs) ds x z y e = go (c .passes) (prefix-accepted cs ds x z y) e
+  where
+    go : (b : Bool) → (answer cs x ≡ accepted z → answer (cs ++ ds) y ≡ answer ds y) → cond b (answer cs x) (refused (c .number)) ≡ accepted z
+        → cond b (answer (cs ++ ds) y) (refused (c .number)) ≡ answer ds y
+    go true ih h = ih h
+    go false ih h = let w : _≡_ {A = ℕ} 0 1 = cc in absurd (omega arith)
+
+and-true : (b : Bool) → (b && true) ≡ b
+and-true true = refl
+and-true false = refl
+
+pub after-refused : {A B : Type 0} (a : Answer A) (n : ℕ) (x y : B) → a ≡ refused n → after a x y ≡ y
+unfolding after
+after-refused a n x y e = ap (λ z. after z x y) e
+
+pub after-accepted : {A B : Type 0} (a : Answer A) (r : A) (x y : B) → a ≡ accepted r → after a x y ≡ x
+unfolding after
+after-accepted a r x y e = ap (λ z. after z x y) e
+
+module _ (g : Shape) (s : ℕ) (f : List ℕ) where
+  abbrev p : List ℕ
+  p = part quadratic g s f
+
+  -- 2, 4, 6 and 7
+  abbrev first : List Check
+  first = check 2 (admitted g) ∷ check 4 (leb (fieldLength quadratic g) (length f)) ∷ check 6 (soundIfThere quadratic g (ltb s (g .tracers)) p) ∷ check 7 (ltb s (g .tracers)) ∷ []
+
+  -- what an accepted reading of the total has shown
+  pub record Found (t : ℕ) : Type 0 where
+    pub shape : Ranges g
+    pub room : fieldLength quadratic g ≤ length f
+    pub tracer : s < g .tracers
+    pub sum : t ≡ total quadratic g p
+    pub small : t ≤ 100000000
+
+  total-small : T (sound quadratic g p) → total quadratic g p ≤ limit
+  unfolding sound
+  total-small t = leb→le _ _ (both-yes (all (elements g) (λ e. ltb (remainder quadratic p e) (weightSum quadratic))) (leb (total quadratic g p) limit) t .1)
+
+  there : (b : Bool) → T b → T (soundIfThere quadratic g b p) → T (sound quadratic g p)
+  unfolding soundIfThere
+  there true t h = h
+  there false t h = absurd t
+
+  pub found : (t : ℕ) → totalReading quadratic g s f ≡ accepted t → Found t
+  unfolding totalReading
+  found t = answer-ind (λ a. a ≡ accepted t → Found t) first (total quadratic g p)
+      (λ n e. let z : _≡_ {A = ℕ} 0 1 = cc in absurd (omega arith))
+      (λ c e. let q : total quadratic g p ≡ t = cc in record {
+        shape = ranges g (c .0);
+        room = leb→le _ _ (c .1 .0);
+        tracer = ltb→lt _ _ (c .1 .1 .1 .0);
+        sum = sym q;
+        small = omega (arith, total-small (there (ltb s (g .tracers)) (c .1 .1 .1 .0) (c .1 .1 .0)));
+      })
+
+  -- the calls go on from there
+  pub emission-reply : (i j q : ℕ) → call quadratic g s (emission i j q) f .reply ≡ answer (first ++ (check 8 (onGrid g i j) ∷ check 9 (leb (total quadratic g p + q) limit) ∷ [])) []
+  unfolding call checks lentEnough done
+  emission-reply i j q = λ k. answer (check 2 (admitted g) ∷ check 4 (and-true (leb (fieldLength quadratic g) (length f)) k) ∷ check 6 (soundIfThere quadratic g (ltb s (g .tracers)) p) ∷ check 7 (ltb s (g .tracers))
+      ∷ check 8 (onGrid g i j) ∷ check 9 (leb (total quadratic g p + q) limit) ∷ []) []
+
+  pub withdrawal-reply : (i j q : ℕ) → call quadratic g s (withdrawal i j q) f .reply ≡ answer (first ++ (check 8 (onGrid g i j) ∷ check 10 (leb q (mass quadratic p (element g i j))) ∷ [])) []
+  unfolding call checks lentEnough done
+  withdrawal-reply i j q = λ k. answer (check 2 (admitted g) ∷ check 4 (and-true (leb (fieldLength quadratic g) (length f)) k) ∷ check 6 (soundIfThere quadratic g (ltb s (g .tracers)) p) ∷ check 7 (ltb s (g .tracers))
+      ∷ check 8 (onGrid g i j) ∷ check 10 (leb q (mass quadratic p (element g i j))) ∷ []) []
+
+  pub mass-reply : (i j : ℕ) → massReading quadratic g s i j f ≡ answer (first ++ (check 8 (onGrid g i j) ∷ [])) (mass quadratic p (element g i j))
+  unfolding massReading
+  mass-reply i j = refl
+
+  -- a reading that was refused refuses the call, and one that was accepted leaves it to the other checks
+  pub first-refused : {B : Type 0} (ds : List Check) (y : B) (n : ℕ) → totalReading quadratic g s f ≡ refused n → answer (first ++ ds) y ≡ refused n
+  unfolding totalReading
+  first-refused ds y n e = prefix-refused first ds (total quadratic g p) y n e
+
+  pub first-accepted : {B : Type 0} (ds : List Check) (y : B) (t : ℕ) → totalReading quadratic g s f ≡ accepted t → answer (first ++ ds) y ≡ answer ds y
+  unfolding totalReading
+  first-accepted ds y t e = prefix-accepted first ds (total quadratic g p) t y e
+
+-- ---- the reading of the total, by its tests
+searched-sum : (b : Bool) (n t : ℕ) → cond b (Sum n) Unsound ≡ Sum t → (b ≡ true) × (n ≡ t)
+searched-sum true n t e = (refl, cc)
+searched-sum false n t e = let z : _≡_ {A = ℕ} 0 1 = cc in absurd (omega arith)
+
+searched-unsound : (b : Bool) (n : ℕ) → cond b (Sum n) Unsound ≡ Unsound → b ≡ false
+searched-unsound true n e = let z : _≡_ {A = ℕ} 0 1 = cc in absurd (omega arith)
+searched-unsound false n e = refl
+
+module _ (g : Shape) (s : ℕ) (f : List ℕ) where
+  pub total-bad-shape : admitted g ≡ false → totalReading quadratic g s f ≡ refused 2
+  unfolding totalReading answer
+  total-bad-shape a = rw a
+
+  pub total-short : admitted g ≡ true → length f < fieldLength quadratic g → totalReading quadratic g s f ≡ refused 4
+  unfolding totalReading answer
+  total-short a r = rw (a, lt-leb _ _ r)
+
+  pub total-no-tracer : admitted g ≡ true → fieldLength quadratic g ≤ length f → g .tracers ≤ s → totalReading quadratic g s f ≡ refused 7
+  unfolding totalReading answer soundIfThere
+  total-no-tracer a r t = rw (a, le-leb _ _ r, le-ltb _ _ t)
+
+  pub total-unsound : admitted g ≡ true → fieldLength quadratic g ≤ length f → s < g .tracers → searched g (part quadratic g s f) ≡ Unsound → totalReading quadratic g s f ≡ refused 6
+  unfolding totalReading answer soundIfThere searched
+  total-unsound a r t e = rw (a, le-leb _ _ r, lt-ltb _ _ t, searched-unsound (sound quadratic g (part quadratic g s f)) (total quadratic g (part quadratic g s f)) e)
+
+  pub total-found : (t : ℕ) → admitted g ≡ true → fieldLength quadratic g ≤ length f → s < g .tracers → searched g (part quadratic g s f) ≡ Sum t → totalReading quadratic g s f ≡ accepted t
+  unfolding totalReading answer soundIfThere searched
+  total-found n a r t e =
+      let w = searched-sum (sound quadratic g (part quadratic g s f)) (total quadratic g (part quadratic g s f)) n e in
+      rw (a, le-leb _ _ r, lt-ltb _ _ t, w .0) (ap accepted (w .1))
+
+-- ---- the calls that go on from an accepted reading of the total
+module _ (g : Shape) (s i j : ℕ) (f : List ℕ) where
+  pub inside : (t : ℕ) → totalReading quadratic g s f ≡ accepted t → onGrid g i j ≡ true → Inside g s i j
+  inside t e o =
+      let h = found g s f t e in
+      let b = both-yes (ltb i (g .nx)) (ltb j (g .ny)) (rw o tt) in
+      record { sized = sized (h .shape); tracer = h .tracer; column = ltb→lt _ _ (b .0); row = ltb→lt _ _ (b .1) }
+
+  pub mass-refused : (n : ℕ) → totalReading quadratic g s f ≡ refused n → massReading quadratic g s i j f ≡ refused n
+  mass-refused n e = mass-reply g s f i j ∙ first-refused g s f _ _ n e
+
+  pub mass-off-grid : (t : ℕ) → totalReading quadratic g s f ≡ accepted t → onGrid g i j ≡ false → massReading quadratic g s i j f ≡ refused 8
+  unfolding answer
+  mass-off-grid t e o = mass-reply g s f i j ∙ first-accepted g s f (check 8 (onGrid g i j) ∷ []) (mass quadratic (part quadratic g s f) (element g i j)) t e ∙ (rw o)
+
+  pub mass-found : (t : ℕ) → totalReading quadratic g s f ≡ accepted t → onGrid g i j ≡ true → massReading quadratic g s i j f ≡ accepted (mass quadratic (part quadratic g s f) (element g i j))
+  unfolding answer
+  mass-found t e o = mass-reply g s f i j ∙ first-accepted g s f (check 8 (onGrid g i j) ∷ []) (mass quadratic (part quadratic g s f) (element g i j)) t e ∙ (rw o)
+
+-- what a refused and an accepted call leave
+module _ (g : Shape) (s : ℕ) (op : Operation Lent) (f : List ℕ) where
+  pub call-refused : (n : ℕ) → call quadratic g s op f .reply ≡ refused n → (refused n ≡ plain (call quadratic g s op f .reply)) × (f ≡ call quadratic g s op f .field)
+  unfolding call plain
+  call-refused n e = (sym (ap plain e), sym (after-refused (call quadratic g s op f .reply) n _ f e))
+
+  pub call-accepted : (r : List ℤ) → call quadratic g s op f .reply ≡ accepted r
+      → (accepted tt ≡ plain (call quadratic g s op f .reply)) × (withPart quadratic g s (done quadratic g op (part quadratic g s f) .part) f ≡ call quadratic g s op f .field)
+  unfolding call plain
+  call-accepted r e = (sym (ap plain e), sym (after-accepted (call quadratic g s op f .reply) r _ f e))
+
+module _ (g : Shape) (s i j q : ℕ) (f : List ℕ) where
+  abbrev rest9 : List Check
+  rest9 = check 8 (onGrid g i j) ∷ check 9 (leb (total quadratic g (part quadratic g s f) + q) limit) ∷ []
+
+  abbrev rest10 : List Check
+  rest10 = check 8 (onGrid g i j) ∷ check 10 (leb q (mass quadratic (part quadratic g s f) (element g i j))) ∷ []
+
+  pub emission-refused : (n : ℕ) → totalReading quadratic g s f ≡ refused n → call quadratic g s (emission i j q) f .reply ≡ refused n
+  emission-refused n e = emission-reply g s f i j q ∙ first-refused g s f rest9 [] n e
+
+  pub emission-off-grid : (t : ℕ) → totalReading quadratic g s f ≡ accepted t → onGrid g i j ≡ false → call quadratic g s (emission i j q) f .reply ≡ refused 8
+  unfolding answer
+  emission-off-grid t e o = emission-reply g s f i j q ∙ first-accepted g s f rest9 [] t e ∙ (rw o)
+
+  pub emission-above : (t : ℕ) → totalReading quadratic g s f ≡ accepted t → onGrid g i j ≡ true → 100000000 < t + q → call quadratic g s (emission i j q) f .reply ≡ refused 9
+  unfolding answer
+  emission-above t e o b = emission-reply g s f i j q ∙ first-accepted g s f rest9 [] t e ∙ (rw (o, ← (found g s f t e .sum), lt-leb _ _ b))
+
+  pub emission-accepted : (t : ℕ) → totalReading quadratic g s f ≡ accepted t → onGrid g i j ≡ true → t + q ≤ 100000000 → call quadratic g s (emission i j q) f .reply ≡ accepted []
+  unfolding answer
+  emission-accepted t e o b = emission-reply g s f i j q ∙ first-accepted g s f rest9 [] t e ∙ (rw (o, ← (found g s f t e .sum), le-leb _ _ b))
+
+  pub withdrawal-refused : (n : ℕ) → totalReading quadratic g s f ≡ refused n → call quadratic g s (withdrawal i j q) f .reply ≡ refused n
+  withdrawal-refused n e = withdrawal-reply g s f i j q ∙ first-refused g s f rest10 [] n e
+
+  pub withdrawal-off-grid : (t : ℕ) → totalReading quadratic g s f ≡ accepted t → onGrid g i j ≡ false → call quadratic g s (withdrawal i j q) f .reply ≡ refused 8
+  unfolding answer
+  withdrawal-off-grid t e o = withdrawal-reply g s f i j q ∙ first-accepted g s f rest10 [] t e ∙ (rw o)
+
+  pub withdrawal-above : (t : ℕ) → totalReading quadratic g s f ≡ accepted t → onGrid g i j ≡ true → mass quadratic (part quadratic g s f) (element g i j) < q → call quadratic g s (withdrawal i j q) f .reply ≡ refused 10
+  unfolding answer
+  withdrawal-above t e o b = withdrawal-reply g s f i j q ∙ first-accepted g s f rest10 [] t e ∙ (rw (o, lt-leb _ _ b))
+
+  pub withdrawal-accepted : (t : ℕ) → totalReading quadratic g s f ≡ accepted t → onGrid g i j ≡ true → q ≤ mass quadratic (part quadratic g s f) (element g i j) → call quadratic g s (withdrawal i j q) f .reply ≡ accepted []
+  unfolding answer
+  withdrawal-accepted t e o b = withdrawal-reply g s f i j q ∙ first-accepted g s f rest10 [] t e ∙ (rw (o, le-leb _ _ b))

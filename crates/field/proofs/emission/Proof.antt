@@ -1,0 +1,132 @@
+use mathlib.Core.Path.{_≡_, sym, ap, _∙_}
+use mathlib.Core.Bool.{true}
+use Prim.Native.Nat.{_≤_, _+_, _-_}
+use borrow.Author.Needs.{needs}
+use native.Mathlib.Omega.{arith}
+use native.Mathlib.Nat.{add-sub-cancel-left}
+use borrow.Author.Tests.{not-true, not-false}
+use lib.ListN.{length, take, drop}
+use Rattle.rules.specs.Answers.{accepted, reading}
+use Rattle.rules.specs.Field.{quadratic, onGrid, element, mass, part}
+use Rattle.rules.specs.Calls.{totalReading, emitted}
+use Rattle.field.specs.Places.{Inside, elementStart}
+use Rattle.field.proofs.PlaceLaws.{element-room, field-is, field-le}
+use Rattle.field.proofs.LoadLaws.{part-size}
+use Rattle.rules.specs.Calls.{emission, done}
+use Rattle.rules.proofs.CallLaws.{length-emitted}
+use Rattle.rules.proofs.PartLaws.{mass-le-total}
+use Rattle.field.proofs.PlaceLaws.{element-lt}
+use Rattle.field.proofs.CheckLaws.{found, inside, call-refused, call-accepted, emission-refused, emission-off-grid, emission-above, emission-accepted}
+use Rattle.field.proofs.InPlaceLaws.{mass-lent, emitted-lent, back-in-place}
+use Rattle.field.proofs.emission.Statement.{statement}
+use Rattle.field.proofs.emission.Tie as tie
+
+total-requires : tie.Need-total-requires
+total-requires c κs = search needs
+
+enum-known-found : tie.Need-enum-known-found
+enum-known-found c = search needs
+
+enum-known-found-2 : tie.Need-enum-known-found-2
+enum-known-found-2 c = search needs
+
+-- what the reading of the total says
+read : (c : tie.After-known-told2) → totalReading quadratic (c .before .before .before .before .before .before .args .shape) (c .before .before .before .before .before .before .args .tracer) (c .before .before .before .before .before .before .args .field .now) ≡ accepted (c .before .found2 .given .0 .0)
+read c = sym (c .before .before .before .total .ensures) ∙ ap reading (c .before .found2 .given .1)
+
+on-grid-requires : tie.Need-on-grid-requires
+on-grid-requires c κs = search needs
+
+same-length : tie.Need-same-length
+same-length c = search needs
+
+returns : tie.Need-returns
+returns c = let a = c .before .before .before .before .before .before .before .before .args in call-refused (a .shape) (a .tracer) (emission (a .i) (a .j) (a .q)) (a .field .now) 8 (emission-off-grid (a .shape) (a .tracer) (a .i) (a .j) (a .q) (a .field .now) _ (read (c .before .before)) (sym (c .before .on-grid .ensures) ∙ not-true _ (c .if1 .taken)))
+
+grid : (c : tie.Else1) → onGrid (c .before .before .before .before .before .before .before .before .args .shape) (c .before .before .before .before .before .before .before .before .args .i) (c .before .before .before .before .before .before .before .before .args .j) ≡ true
+grid c = sym (c .before .on-grid .ensures) ∙ not-false _ (c .if1 .left)
+
+within : (c : tie.Else1) → Inside (c .before .before .before .before .before .before .before .before .args .shape) (c .before .before .before .before .before .before .before .before .args .tracer) (c .before .before .before .before .before .before .before .before .args .i) (c .before .before .before .before .before .before .before .before .args .j)
+within c = let a = c .before .before .before .before .before .before .before .before .args in inside (a .shape) (a .tracer) (a .i) (a .j) (a .field .now) _ (read (c .before .before)) (grid c)
+
+sub-if2 : tie.Need-sub-if2
+sub-if2 c = let a = c .before .before .before .before .before .before .before .before .args in found (a .shape) (a .tracer) (a .field .now) _ (read (c .before .before)) .small
+
+same-length-2 : tie.Need-same-length-2
+same-length-2 c = search needs
+
+returns-2 : tie.Need-returns-2
+returns-2 c =
+    let a = c .before .before .before .before .before .before .before .before .before .args in
+    let h = found (a .shape) (a .tracer) (a .field .now) _ (read (c .before .before .before)) in
+    call-refused (a .shape) (a .tracer) (emission (a .i) (a .j) (a .q)) (a .field .now) 9 (emission-above (a .shape) (a .tracer) (a .i) (a .j) (a .q) (a .field .now) _ (read (c .before .before .before)) (grid (c .before)) (omega (arith, c .if2 .taken, h .small)))
+
+element-start-requires : tie.Need-element-start-requires
+element-start-requires c κs = within (c .before)
+
+-- the element ends within the field
+ends : (c : tie.After-element-start) → (c .element-start .result + 10 ≤ length (c .before .before .before .before .before .before .before .before .before .before .args .field .now)) × (c .element-start .result + 10 ≤ 327680)
+ends c =
+    let a = c .before .before .before .before .before .before .before .before .before .before .args in
+    let h = found (a .shape) (a .tracer) (a .field .now) _ (read (c .before .before .before .before)) in
+    let w = within (c .before .before) in
+    let r = element-room (a .shape) (a .tracer) (a .i) (a .j) w in
+    (omega (arith, r, h .room, c .element-start .ensures), omega (arith, r, field-is (a .shape), field-le (a .shape) (w .sized), c .element-start .ensures))
+
+add-end : tie.Need-add-end
+add-end c = record { fits = omega (arith, ends c) }
+
+mul-emit : tie.Need-mul-emit
+mul-emit c = omega (arith, ends c)
+
+sub-emit : tie.Need-sub-emit
+sub-emit c = search needs
+
+part-emit-start : tie.Need-part-emit-start
+part-emit-start c = search needs
+
+part-emit-end : tie.Need-part-emit-end
+part-emit-end c = omega (arith, ends c)
+
+-- what is lent holds the element's mass
+lent-mass : (c : tie.After-emit-arg) → mass quadratic (take (c .before .element-start .result + 10 - c .before .element-start .result) (drop (c .before .element-start .result) (c .before .before .before .before .before .before .before .before .before .before .before .args .field .now))) 0 ≡ mass quadratic (part quadratic (c .before .before .before .before .before .before .before .before .before .before .before .args .shape) (c .before .before .before .before .before .before .before .before .before .before .before .args .tracer) (c .before .before .before .before .before .before .before .before .before .before .before .args .field .now)) (element (c .before .before .before .before .before .before .before .before .before .before .before .args .shape) (c .before .before .before .before .before .before .before .before .before .before .before .args .i) (c .before .before .before .before .before .before .before .before .before .before .before .args .j))
+lent-mass c =
+    let a = c .before .before .before .before .before .before .before .before .before .before .before .args in
+    let st = elementStart (a .shape) (a .tracer) (a .i) (a .j) in
+    rw (c .before .element-start .ensures) (mass-lent (a .shape) (a .tracer) (a .i) (a .j) (a .field .now) (within (c .before .before .before)) (found (a .shape) (a .tracer) (a .field .now) _ (read (c .before .before .before .before .before)) .room) (st + 10 - st) (add-sub-cancel-left st 10))
+
+emit-requires : tie.Need-emit-requires
+emit-requires c κs =
+    let r = c .before .element-start .result in
+    let a = c .before .before .before .before .before .before .before .before .before .before .before .args in
+    let b = c .before .before in
+    let h = found (a .shape) (a .tracer) (a .field .now) _ (read (c .before .before .before .before .before)) in
+    let w = within (b .before) in
+    (part-size 10 r (r + 10 - r) (a .field .now) (add-sub-cancel-left r 10) (ends (c .before) .0), omega (arith, lent-mass c, mass-le-total quadratic (a .shape) (part quadratic (a .shape) (a .tracer) (a .field .now)) (element (a .shape) (a .i) (a .j)) (element-lt (a .shape) (a .i) (a .j) (w .column) (w .row)), h .sum, h .small, b .if2 .left))
+
+same-length-3 : tie.Need-same-length-3
+same-length-3 c = search needs
+
+returns-3 : tie.Need-returns-3
+returns-3 c = let a = c .before .before .before .before .before .before .args in call-refused (a .shape) (a .tracer) (emission (a .i) (a .j) (a .q)) (a .field .now) _ (emission-refused (a .shape) (a .tracer) (a .i) (a .j) (a .q) (a .field .now) _ (sym (c .before .before .before .total .ensures) ∙ ap reading (c .before .found .given .1)))
+
+same-length-4 : tie.Need-same-length-4
+same-length-4 c = search needs
+
+returns-4 : tie.Need-returns-4
+unfolding done
+returns-4 c =
+    let a = c .before .before .before .before .before .before .before .before .before .before .before .before .before .before .args in
+    let b = c .before .before .before .before in
+    let st = elementStart (a .shape) (a .tracer) (a .i) (a .j) in
+    let h = found (a .shape) (a .tracer) (a .field .now) _ (read (c .before .before .before .before .before .before .before .before)) in
+    let w = within (c .before .before .before .before .before .before) in
+    let e = call-accepted (a .shape) (a .tracer) (emission (a .i) (a .j) (a .q)) (a .field .now) _ (emission-accepted (a .shape) (a .tracer) (a .i) (a .j) (a .q) (a .field .now) _ (read (c .before .before .before .before .before .before .before .before)) (grid (c .before .before .before .before .before .before)) (omega (arith, c .before .before .before .before .before .if2 .left, h .small))) in
+    let k = st + 10 - st in
+    let ten-is = add-sub-cancel-left st 10 in
+    let x : c .before .before .emit .last .0 ≡ emitted quadratic (element (a .shape) (a .i) (a .j)) (a .q) (part quadratic (a .shape) (a .tracer) (a .field .now)) =
+    c .before .before .emit .ensures ∙ (rw (b .element-start .ensures) (emitted-lent (a .shape) (a .tracer) (a .i) (a .j) (a .field .now) w (h .room) k ten-is (a .q))) in
+    (e .0, (rw (b .element-start .ensures) (back-in-place (a .shape) (a .tracer) (a .i) (a .j) (a .field .now) w (h .room) k ten-is _ _ x (length-emitted quadratic (element (a .shape) (a .i) (a .j)) (a .q) (part quadratic (a .shape) (a .tracer) (a .field .now))))) ∙ e .1)
+
+pub emission-spec : {M : Type 1} → statement M
+emission-spec = tie.close (tie.spec total-requires enum-known-found enum-known-found-2 on-grid-requires same-length returns sub-if2 same-length-2 returns-2 element-start-requires add-end mul-emit sub-emit part-emit-start part-emit-end emit-requires same-length-3 returns-3 same-length-4 returns-4)

@@ -1,0 +1,117 @@
+use mathlib.Core.Path.{_≡_, sym, ap, _∙_}
+use mathlib.Core.Bool.{true}
+use Prim.Native.Nat.{_+_, _-_, _*_, _≤_}
+use borrow.Author.Needs.{needs}
+use borrow.Author.Tests.{not-true, not-false}
+use native.Mathlib.Nat.{add-sub-cancel-left}
+use native.Mathlib.Omega.{arith}
+use lib.ListN.{length}
+use Rattle.whole.specs.Table.{blocks}
+use Rattle.rules.specs.Field.{quadratic, admitted, elements, fieldLength, total}
+use Rattle.rules.specs.Calls.{loaded}
+use Rattle.field.specs.Places.{laid}
+use Rattle.field.proofs.PlaceLaws.{tracer-is, elements-le, field-le, field-is, tracer-room}
+use Rattle.field.proofs.LoadLaws.{part-size}
+use Rattle.field.proofs.FillLaws.{sized-of, load-total, load-back, load-2, load-4-field, load-4-numbers, load-7, load-9, load-done}
+use Rattle.field.proofs.load.Statement.{statement}
+use Rattle.field.proofs.load.Tie as tie
+
+admitted-requires : tie.Need-admitted-requires
+admitted-requires c κs = tt
+
+returns : tie.Need-returns
+returns c = load-2 _ _ _ _ (sym (c .before .admitted .ensures) ∙ not-true _ (c .if1 .taken))
+
+-- what each passed test says
+shape : (c : tie.Else1) → admitted (c .before .before .before .before .args .shape) ≡ true
+shape c = sym (c .before .admitted .ensures) ∙ not-false _ (c .if1 .left)
+
+room : (c : tie.Else2) → fieldLength quadratic (c .before .before .before .before .before .before .args .shape) ≤ length (c .before .before .before .before .before .before .args .field .now)
+room c = omega (arith, c .before .field-length .ensures)
+
+enough : (c : tie.Else3) → elements (c .before .before .before .before .before .before .before .before .args .shape) * 9 ≤ length (c .before .before .before .before .before .before .before .before .args .numbers .now)
+enough c = omega (arith, c .before .elements .ensures)
+
+-- the sum that was made is the total
+summed : (c : tie.After-loaded-total) → c .loaded-total .result ≡ total quadratic (c .before .before .before .before .before .before .before .before .before .before .before .args .shape) (loaded quadratic (c .before .before .before .before .before .before .before .before .before .before .before .args .shape) (c .before .before .before .before .before .before .before .before .before .before .before .args .numbers .now))
+summed c =
+    let a = c .before .before .before .before .before .before .before .before .before .before .before .args in
+    (rw (c .before .before .before .before .elements .ensures) at (c .loaded-total .ensures)) ∙ sym (load-total (a .shape) (a .numbers .now))
+
+field-length-requires : tie.Need-field-length-requires
+field-length-requires c κs = sized-of _ (shape c)
+
+returns-2 : tie.Need-returns-2
+returns-2 c = load-4-field _ _ _ _ (shape (c .before .before)) (omega (arith, c .before .field-length .ensures))
+
+elements-requires : tie.Need-elements-requires
+elements-requires c κs = sized-of _ (shape (c .before .before))
+
+-- the sizes of an admitted shape
+small : (c : tie.After-elements) → c .elements .result ≤ 4096
+small c = let g = c .before .before .before .before .before .before .before .args .shape in omega (arith, c .elements .ensures, elements-le g (sized-of g (shape (c .before .before .before))))
+
+mul-if3 : tie.Need-mul-if3
+mul-if3 c = omega (arith, small c)
+
+returns-3 : tie.Need-returns-3
+returns-3 c = load-4-numbers _ _ _ _ (shape (c .before .before .before .before)) (room (c .before .before)) (omega (arith, c .before .elements .ensures))
+
+returns-4 : tie.Need-returns-4
+returns-4 c = load-7 _ _ _ _ (shape (c .before .before .before .before .before .before)) (room (c .before .before .before .before)) (enough (c .before .before)) (c .if4 .taken)
+
+loaded-total-requires : tie.Need-loaded-total-requires
+loaded-total-requires c κs = (small (c .before .before .before), omega arith)
+
+returns-5 : tie.Need-returns-5
+returns-5 c = load-9 _ _ _ _ (shape (c .before .before .before .before .before .before .before .before)) (room (c .before .before .before .before .before .before)) (enough (c .before .before .before .before)) (c .before .before .if4 .left) (omega (arith, summed (c .before)))
+
+tracer-start-requires : tie.Need-tracer-start-requires
+tracer-start-requires c κs = (sized-of _ (shape (c .before .before .before .before .before .before .before .before)), c .before .before .if4 .left)
+
+tracer-length-requires : tie.Need-tracer-length-requires
+tracer-length-requires c κs = sized-of _ (shape (c .before .before .before .before .before .before .before .before .before))
+
+-- the part ends within the field
+end : (c : tie.After-tracer-length) → c .before .tracer-start .result + c .tracer-length .result ≤ fieldLength quadratic (c .before .before .before .before .before .before .before .before .before .before .before .before .before .before .args .shape)
+end c = let a = c .before .before .before .before .before .before .before .before .before .before .before .before .before .before .args in omega (arith, c .tracer-length .ensures, c .before .tracer-start .ensures, tracer-room (a .shape) (a .tracer) (c .before .before .before .before .if4 .left))
+
+add-end : tie.Need-add-end
+add-end c = let g = c .before .before .before .before .before .before .before .before .before .before .before .before .before .before .args .shape in omega (arith, end c, field-is g, field-le g (sized-of g (shape (c .before .before .before .before .before .before .before .before .before .before))))
+
+mul-lay : tie.Need-mul-lay
+mul-lay c = let g = c .before .before .before .before .before .before .before .before .before .before .before .before .before .before .args .shape in omega (arith, end c, field-is g, field-le g (sized-of g (shape (c .before .before .before .before .before .before .before .before .before .before))))
+
+sub-lay : tie.Need-sub-lay
+sub-lay c = search needs
+
+part-lay-start : tie.Need-part-lay-start
+part-lay-start c = search needs
+
+part-lay-end : tie.Need-part-lay-end
+part-lay-end c = omega (arith, end c, room (c .before .before .before .before .before .before .before .before))
+
+lay-requires : tie.Need-lay-requires
+lay-requires c κs =
+    let a = c .before .before .before .before .before .before .before .before .before .before .before .before .before .before .before .args in
+    let at = c .before .before .tracer-start .result in
+    let n = c .before .tracer-length .result in
+    let size : n ≡ c .before .before .before .before .before .before .before .before .elements .result * 10 = omega (arith, c .before .tracer-length .ensures, tracer-is (a .shape), c .before .before .before .before .before .before .before .before .elements .ensures) in
+    (part-size n at (at + n - at) (a .field .now) (add-sub-cancel-left at n) (omega (arith, end (c .before), room (c .before .before .before .before .before .before .before .before .before))) ∙ size, (small (c .before .before .before .before .before .before .before .before), omega (arith, c .before .before .before .before .before .before .before .if3 .left)))
+
+same-length : tie.Need-same-length
+same-length c = search needs
+
+returns-6 : tie.Need-returns-6
+returns-6 c =
+    let a = c .before .before .before .before .before .before .before .before .before .before .before .before .before .before .before .before .before .before .args in
+    let n = c .before .before .before .before .tracer-length .result in
+    let at = c .before .before .before .before .before .tracer-start .result in
+    let d = load-done (a .shape) (a .tracer) (a .numbers .now) (a .field .now) (shape (c .before .before .before .before .before .before .before .before .before .before .before .before .before .before)) (room (c .before .before .before .before .before .before .before .before .before .before .before .before)) (enough (c .before .before .before .before .before .before .before .before .before .before)) (c .before .before .before .before .before .before .before .before .if4 .left) (omega (arith, summed (c .before .before .before .before .before .before .before), c .before .before .before .before .before .before .if5 .left)) in (
+      d .0,
+      load-back (a .shape) (a .tracer) (a .numbers .now) (a .field .now) at (at + n - at) (c .before .before .lay .last .0) (c .before .before .before .before .before .tracer-start .ensures) (add-sub-cancel-left at n ∙ c .before .before .before .before .tracer-length .ensures)
+          (c .before .before .lay .ensures ∙ ap (λ m. blocks m (laid (a .numbers .now))) (c .before .before .before .before .before .before .before .before .before .before .before .elements .ensures)) ∙ d .1,
+    )
+
+pub load-spec : {M : Type 1} → statement M
+load-spec = tie.close (tie.spec admitted-requires returns field-length-requires returns-2 elements-requires mul-if3 returns-3 returns-4 loaded-total-requires returns-5 tracer-start-requires tracer-length-requires add-end mul-lay sub-lay part-lay-start part-lay-end lay-requires same-length returns-6)

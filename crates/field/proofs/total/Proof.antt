@@ -1,0 +1,99 @@
+use mathlib.Core.Path.{_≡_, sym, ap, _∙_}
+use mathlib.Core.Bool.{true}
+use Prim.Native.Nat.{_≤_, _+_, _-_}
+use borrow.Author.Needs.{needs}
+use native.Mathlib.Omega.{arith}
+use native.Mathlib.Nat.{add-sub-cancel-left}
+use borrow.Author.Tests.{not-true, not-false}
+use lib.ListN.{length, take, drop}
+use Rattle.rules.specs.Field.{quadratic, admitted, fieldLength, part}
+use Rattle.rules.proofs.FieldLaws.{ranges}
+use Rattle.field.specs.Places.{Sized}
+use Rattle.field.specs.Search.{searched}
+use Rattle.field.proofs.PlaceLaws.{sized, field-is, field-le, tracer-room}
+use Rattle.rules.proofs.PartLaws.{part-length}
+use Rattle.field.proofs.CheckLaws.{total-bad-shape, total-short, total-no-tracer, total-unsound, total-found}
+use Rattle.field.proofs.total.Statement.{statement}
+use Rattle.field.proofs.total.Tie as tie
+
+admitted-requires : tie.Need-admitted-requires
+admitted-requires c κs = search needs
+
+returns : tie.Need-returns
+returns c = let a = c .before .before .before .args in sym (total-bad-shape (a .shape) (a .tracer) (a .field .now) (sym (c .before .admitted .ensures) ∙ not-true _ (c .if1 .taken)))
+
+-- what the first tests say
+shape-is : (c : tie.Else1) → admitted (c .before .before .before .args .shape) ≡ true
+shape-is c = sym (c .before .admitted .ensures) ∙ not-false _ (c .if1 .left)
+
+small : (c : tie.Else1) → Sized (c .before .before .before .args .shape)
+small c = sized (ranges (c .before .before .before .args .shape) (rw (shape-is c) tt))
+
+field-length-requires : tie.Need-field-length-requires
+field-length-requires c κs = small c
+
+returns-2 : tie.Need-returns-2
+returns-2 c = let a = c .before .before .before .before .before .args in sym (total-short (a .shape) (a .tracer) (a .field .now) (shape-is (c .before .before)) (rw (c .before .field-length .ensures) at (c .if2 .taken)))
+
+room : (c : tie.Else2) → fieldLength quadratic (c .before .before .before .before .before .args .shape) ≤ length (c .before .before .before .before .before .args .field .now)
+room c = rw (c .before .field-length .ensures) at (c .if2 .left)
+
+returns-3 : tie.Need-returns-3
+returns-3 c = let a = c .before .before .before .before .before .before .before .args in sym (total-no-tracer (a .shape) (a .tracer) (a .field .now) (shape-is (c .before .before .before .before)) (room (c .before .before)) (c .if3 .taken))
+
+tracer-start-requires : tie.Need-tracer-start-requires
+tracer-start-requires c κs = (small (c .before .before .before .before), c .if3 .left)
+
+tracer-length-requires : tie.Need-tracer-length-requires
+tracer-length-requires c κs = small (c .before .before .before .before .before)
+
+-- the tracer's part ends within the field
+ends : (c : tie.After-tracer-length) → (c .before .tracer-start .result + c .tracer-length .result ≤ length (c .before .before .before .before .before .before .before .before .before .args .field .now)) × (c .before .tracer-start .result + c .tracer-length .result ≤ 327680)
+ends c =
+    let a = c .before .before .before .before .before .before .before .before .before .args in
+    let r = tracer-room (a .shape) (a .tracer) (c .before .before .if3 .left) in
+    (omega (arith, r, room (c .before .before .before .before), c .before .tracer-start .ensures, c .tracer-length .ensures), omega (arith, r, field-is (a .shape), field-le (a .shape) (small (c .before .before .before .before .before .before)), c .before .tracer-start .ensures, c .tracer-length .ensures))
+
+-- what is lent is the tracer's part
+lent-is : (c : tie.After-tracer-length) → take (c .before .tracer-start .result + c .tracer-length .result - c .before .tracer-start .result) (drop (c .before .tracer-start .result) (c .before .before .before .before .before .before .before .before .before .args .field .now)) ≡ part quadratic (c .before .before .before .before .before .before .before .before .before .args .shape) (c .before .before .before .before .before .before .before .before .before .args .tracer) (c .before .before .before .before .before .before .before .before .before .args .field .now)
+unfolding part
+lent-is c = rw (add-sub-cancel-left (c .before .tracer-start .result) (c .tracer-length .result), c .before .tracer-start .ensures, c .tracer-length .ensures)
+
+add-end : tie.Need-add-end
+add-end c = record { fits = omega (arith, ends c) }
+
+mul-tracer-total : tie.Need-mul-tracer-total
+mul-tracer-total c = omega (arith, ends c)
+
+sub-tracer-total : tie.Need-sub-tracer-total
+sub-tracer-total c = search needs
+
+part-tracer-total-start : tie.Need-part-tracer-total-start
+part-tracer-total-start c = search needs
+
+part-tracer-total-end : tie.Need-part-tracer-total-end
+part-tracer-total-end c = omega (arith, ends c)
+
+tracer-total-requires : tie.Need-tracer-total-requires
+tracer-total-requires c κs = let a = c .before .before .before .before .before .before .before .before .before .before .args in (small (c .before .before .before .before .before .before .before), ap length (lent-is (c .before)) ∙ part-length quadratic (a .shape) (a .tracer) (a .field .now) (c .before .before .before .if3 .left) (room (c .before .before .before .before .before)))
+
+enum-known-found : tie.Need-enum-known-found
+enum-known-found c = search needs
+
+enum-told : tie.Need-enum-told
+enum-told c = search needs
+
+returns-4 : tie.Need-returns-4
+returns-4 c =
+    let a = c .before .before .before .before .before .before .before .before .before .before .before .before .before .before .args in
+    sym (total-found (a .shape) (a .tracer) (a .field .now) _ (shape-is (c .before .before .before .before .before .before .before .before .before .before .before)) (room (c .before .before .before .before .before .before .before .before .before)) (c .before .before .before .before .before .before .before .if3 .left)
+    (sym (ap (searched (a .shape)) (lent-is (c .before .before .before .before .before))) ∙ sym (c .before .before .before .tracer-total .ensures) ∙ c .before .found .given .1))
+
+returns-5 : tie.Need-returns-5
+returns-5 c =
+    let a = c .before .before .before .before .before .before .before .before .before .before .before .before .before .args in
+    sym (total-unsound (a .shape) (a .tracer) (a .field .now) (shape-is (c .before .before .before .before .before .before .before .before .before .before)) (room (c .before .before .before .before .before .before .before .before)) (c .before .before .before .before .before .before .if3 .left)
+    (sym (ap (searched (a .shape)) (lent-is (c .before .before .before .before))) ∙ sym (c .before .before .tracer-total .ensures) ∙ c .enum-told .given .1))
+
+pub total-spec : {M : Type 1} → statement M
+total-spec = tie.close (tie.spec admitted-requires returns field-length-requires returns-2 returns-3 tracer-start-requires tracer-length-requires add-end mul-tracer-total sub-tracer-total part-tracer-total-start part-tracer-total-end tracer-total-requires enum-known-found enum-told returns-4 returns-5)

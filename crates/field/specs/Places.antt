@@ -1,0 +1,42 @@
+-- An admitted shape by its bounds, and where numbers stand.
+use mathlib.Core.Bool.{Bool, _&&_}
+use mathlib.Core.List.{List, [], _∷_, _++_}
+use Prim.Native.Nat.{ℕ, _+_, _*_, _≤_, _<_}
+use lib.Dec.{leb}
+use lib.ListN.{getD}
+use Rattle.whole.specs.Sum.{sum}
+use Rattle.whole.specs.Table.{table}
+use Rattle.rules.specs.declared.Shape.{Shape}
+use Rattle.rules.specs.Field.{quadratic, element, elementLength, tracerLength}
+use Rattle.rules.specs.Calls.{loadedValue}
+
+abbrev pub between : ℕ → ℕ → ℕ → Bool
+between low x high = leb low x && leb x high
+
+-- a shape whose numbers are not too large
+pub record Sized (g : Shape) : Type 0 where
+  pub nx : g .nx ≤ 64
+  pub ny : g .ny ≤ 64
+  pub tracers : g .tracers ≤ 8
+
+-- element (i, j) of a tracer that is there
+pub record Inside (g : Shape) (s i j : ℕ) : Type 0 where
+  pub sized : Sized g
+  pub tracer : s < g .tracers
+  pub column : i < g .nx
+  pub row : j < g .ny
+
+-- where element (i, j) of tracer s starts in the field
+unfoldable pub elementStart : Shape → ℕ → ℕ → ℕ → ℕ
+elementStart g s i j = s * tracerLength quadratic g + element g i j * elementLength quadratic
+
+-- the ten numbers of element e after a load
+unfoldable pub laid : List ℕ → ℕ → List ℕ
+laid numbers e = table 9 (loadedValue quadratic numbers e) ++ (0 ∷ [])
+
+-- the weights of an element's ten numbers, and the weighted sum of the first n of them
+abbrev pub tenWeights : List ℕ
+tenWeights = 1 ∷ 4 ∷ 1 ∷ 4 ∷ 16 ∷ 4 ∷ 1 ∷ 4 ∷ 1 ∷ 1 ∷ []
+
+unfoldable pub weighed : List ℕ → ℕ → ℕ
+weighed l n = sum n (λ v. getD tenWeights v 0 * getD l v 0)

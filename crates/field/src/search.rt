@@ -1,0 +1,54 @@
+// The search of a tracer's numbers: "by rows, elements and numbers ends at the first break".
+ghost use mathlib.Core.Path.{_≡_};
+ghost use lib.ListN.{length};
+ghost use Rattle.rules.specs.Field.{quadratic, tracerLength};
+ghost use Rattle.field.specs.Places.{Sized};
+ghost use Rattle.field.specs.Search.{searched};
+use rules::Shape;
+
+// What the search finds: the tracer's total, or a remainder or a total out of range.
+pub enum Total {
+    Sum(u64),
+    Unsound,
+}
+
+const LIMIT: u64 = 100_000_000;
+
+const WEIGHTS: [u64; 10] = [1, 4, 1, 4, 16, 4, 1, 4, 1, 1];
+
+// A leaf: the total of a tracer's part, unless a remainder is above 35 or the total above the limit.
+pub fn tracer_total(part: &[u32], shape: Shape) -> Total
+    requires { ⌜ Sized shape ⌝ }
+    requires { ⌜ length (now part) ≡ tracerLength quadratic shape ⌝ }
+    ensures { λ r. ⌜ r ≡ searched shape (now (part .entry)) ⌝ }
+{
+    let nx = shape.nx;
+    let ny = shape.ny;
+    let mut sum: u64 = 0;
+    let mut sound = true;
+    let mut start = 0;
+    'rows: for j in 0..ny {
+        'elements: for i in 0..nx {
+            'numbers: for v in 0..10 {
+                let x = part[start + v] as u64;
+                if v == 9 {
+                    if 35 < x {
+                        sound = false;
+                        break 'rows;
+                    }
+                }
+                sum += WEIGHTS[v] * x;
+                if LIMIT < sum {
+                    sound = false;
+                    break 'rows;
+                }
+            }
+            start += 10;
+        }
+    }
+    if sound {
+        Total::Sum(sum)
+    } else {
+        Total::Unsound
+    }
+}
