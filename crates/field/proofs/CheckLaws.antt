@@ -19,7 +19,8 @@ use Rattle.field.specs.Search.{searched}
 use Rattle.field.specs.declared.search.Total.the-variants.{Sum, Unsound}
 use Rattle.rules.proofs.AnswerLaws.{answer-ind}
 use Rattle.rules.proofs.FieldLaws.{Ranges, ranges}
-use Rattle.field.proofs.PlaceLaws.{sized}
+use Rattle.rules.proofs.PartLaws.{mass-le-total}
+use Rattle.field.proofs.PlaceLaws.{sized, element-lt}
 
 -- ---- answers of a list of checks that another list goes on
 pub prefix-refused : {A B : Type 0} (cs ds : List Check) (x : A) (y : B) (n : ℕ) → answer cs x ≡ refused n → answer (cs ++ ds) y ≡ refused n
@@ -166,6 +167,49 @@ module _ (g : Shape) (s i j : ℕ) (f : List ℕ) where
   unfolding answer
   mass-found t e o = mass-reply g s f i j ∙ first-accepted g s f (check 8 (onGrid g i j) ∷ []) (mass quadratic (part quadratic g s f) (element g i j)) t e ∙ (rw o)
 
+-- ---- a withdrawal goes on from an accepted reading of the element's mass
+module _ (g : Shape) (s i j : ℕ) (f : List ℕ) where
+  abbrev m : ℕ
+  m = mass quadratic (part quadratic g s f) (element g i j)
+
+  -- 2, 4, 6, 7 and 8
+  abbrev five : List Check
+  five = first g s f ++ (check 8 (onGrid g i j) ∷ [])
+
+  -- what an accepted reading of the mass has shown
+  pub record Held (h : ℕ) : Type 0 where
+    pub within : Inside g s i j
+    pub room : fieldLength quadratic g ≤ length f
+    pub is : h ≡ m
+    pub small : h ≤ 100000000
+
+  pub held : (h : ℕ) → massReading quadratic g s i j f ≡ accepted h → Held h
+  unfolding massReading
+  held h = answer-ind (λ a. a ≡ accepted h → Held h) five m
+      (λ n e. let z : _≡_ {A = ℕ} 0 1 = cc in absurd (omega arith))
+      (λ c e. let q : m ≡ h = cc in
+      let b = both-yes (ltb i (g .nx)) (ltb j (g .ny)) (c .1 .1 .1 .1 .0) in
+      let column = ltb→lt _ _ (b .0) in
+      let row = ltb→lt _ _ (b .1) in
+      record {
+        within = record { sized = sized (ranges g (c .0)); tracer = ltb→lt _ _ (c .1 .1 .1 .0); column = column; row = row };
+        room = leb→le _ _ (c .1 .0);
+        is = sym q;
+        small = omega (arith, total-small g s f (there g s f (ltb s (g .tracers)) (c .1 .1 .1 .0) (c .1 .1 .0)), mass-le-total quadratic g (part quadratic g s f) (element g i j) (element-lt g i j column row));
+      })
+
+  pub withdrawal-refused : (q n : ℕ) → massReading quadratic g s i j f ≡ refused n → call quadratic g s (withdrawal i j q) f .reply ≡ refused n
+  unfolding massReading
+  withdrawal-refused q n e = withdrawal-reply g s f i j q ∙ prefix-refused five (check 10 (leb q m) ∷ []) m [] n e
+
+  pub withdrawal-over : (q h : ℕ) → massReading quadratic g s i j f ≡ accepted h → h < q → call quadratic g s (withdrawal i j q) f .reply ≡ refused 10
+  unfolding massReading answer
+  withdrawal-over q h e b = withdrawal-reply g s f i j q ∙ prefix-accepted five (check 10 (leb q m) ∷ []) m h [] e ∙ (rw (← (held h e .is), lt-leb _ _ b))
+
+  pub withdrawal-accepted : (q h : ℕ) → massReading quadratic g s i j f ≡ accepted h → q ≤ h → call quadratic g s (withdrawal i j q) f .reply ≡ accepted []
+  unfolding massReading answer
+  withdrawal-accepted q h e b = withdrawal-reply g s f i j q ∙ prefix-accepted five (check 10 (leb q m) ∷ []) m h [] e ∙ (rw (← (held h e .is), le-leb _ _ b))
+
 -- what a refused and an accepted call leave
 module _ (g : Shape) (s : ℕ) (op : Operation Lent) (f : List ℕ) where
   pub call-refused : (n : ℕ) → call quadratic g s op f .reply ≡ refused n → (refused n ≡ plain (call quadratic g s op f .reply)) × (f ≡ call quadratic g s op f .field)
@@ -181,9 +225,6 @@ module _ (g : Shape) (s i j q : ℕ) (f : List ℕ) where
   abbrev rest9 : List Check
   rest9 = check 8 (onGrid g i j) ∷ check 9 (leb (total quadratic g (part quadratic g s f) + q) limit) ∷ []
 
-  abbrev rest10 : List Check
-  rest10 = check 8 (onGrid g i j) ∷ check 10 (leb q (mass quadratic (part quadratic g s f) (element g i j))) ∷ []
-
   pub emission-refused : (n : ℕ) → totalReading quadratic g s f ≡ refused n → call quadratic g s (emission i j q) f .reply ≡ refused n
   emission-refused n e = emission-reply g s f i j q ∙ first-refused g s f rest9 [] n e
 
@@ -198,18 +239,3 @@ module _ (g : Shape) (s i j q : ℕ) (f : List ℕ) where
   pub emission-accepted : (t : ℕ) → totalReading quadratic g s f ≡ accepted t → onGrid g i j ≡ true → t + q ≤ 100000000 → call quadratic g s (emission i j q) f .reply ≡ accepted []
   unfolding answer
   emission-accepted t e o b = emission-reply g s f i j q ∙ first-accepted g s f rest9 [] t e ∙ (rw (o, ← (found g s f t e .sum), le-leb _ _ b))
-
-  pub withdrawal-refused : (n : ℕ) → totalReading quadratic g s f ≡ refused n → call quadratic g s (withdrawal i j q) f .reply ≡ refused n
-  withdrawal-refused n e = withdrawal-reply g s f i j q ∙ first-refused g s f rest10 [] n e
-
-  pub withdrawal-off-grid : (t : ℕ) → totalReading quadratic g s f ≡ accepted t → onGrid g i j ≡ false → call quadratic g s (withdrawal i j q) f .reply ≡ refused 8
-  unfolding answer
-  withdrawal-off-grid t e o = withdrawal-reply g s f i j q ∙ first-accepted g s f rest10 [] t e ∙ (rw o)
-
-  pub withdrawal-above : (t : ℕ) → totalReading quadratic g s f ≡ accepted t → onGrid g i j ≡ true → mass quadratic (part quadratic g s f) (element g i j) < q → call quadratic g s (withdrawal i j q) f .reply ≡ refused 10
-  unfolding answer
-  withdrawal-above t e o b = withdrawal-reply g s f i j q ∙ first-accepted g s f rest10 [] t e ∙ (rw (o, lt-leb _ _ b))
-
-  pub withdrawal-accepted : (t : ℕ) → totalReading quadratic g s f ≡ accepted t → onGrid g i j ≡ true → q ≤ mass quadratic (part quadratic g s f) (element g i j) → call quadratic g s (withdrawal i j q) f .reply ≡ accepted []
-  unfolding answer
-  withdrawal-accepted t e o b = withdrawal-reply g s f i j q ∙ first-accepted g s f rest10 [] t e ∙ (rw (o, le-leb _ _ b))

@@ -55,6 +55,9 @@ module _ (g : Shape) where
   unfolding elementStart
   element-room s i j h = omega (arith, tracer-room s (h .tracer), tracer-is, ap (λ n. element g i j * n) ten, element-lt i j (h .column) (h .row))
 
+  pub element-ends : (s i j : ℕ) → Inside g s i j → (n : ℕ) → fieldLength quadratic g ≤ n → (at : ℕ) → at ≡ elementStart g s i j → (at + 10 ≤ n) × (at + 10 ≤ 327680)
+  element-ends s i j h n room at e = (omega (arith, element-room s i j h, room, e), omega (arith, element-room s i j h, field-is, field-le (h .sized), e))
+
   pub start-is : (s i j : ℕ) → elementStart g s i j ≡ s * tracerLength quadratic g + element g i j * 10
   unfolding elementStart
   start-is s i j = ap (λ n. s * tracerLength quadratic g + element g i j * n) ten

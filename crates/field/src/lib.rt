@@ -100,19 +100,15 @@ pub fn withdrawal(
     ensures { λ r. ⌜ outcome r ≡ plain (call quadratic shape tracer (withdrawal i j q) (now (field .entry)) .reply) ⌝ }
     ensures { λ _. ⌜ now (field .exit) ≡ call quadratic shape tracer (withdrawal i j q) (now (field .entry)) .field ⌝ }
 {
-    let found = total(field, shape, tracer);
+    let found = mass(field, shape, tracer, i, j);
     match found {
         Reading::Refused(r) => Outcome::Refused(r),
-        Reading::Number(_) => {
-            if !places::on_grid(shape, i, j) {
-                return Outcome::Refused(Refusal::NoSuchElement);
-            }
-            let start = places::element_start(shape, tracer, i, j);
-            let end = start + 10;
-            let held = element::mass(&field[start..end]);
+        Reading::Number(held) => {
             if held < q {
                 return Outcome::Refused(Refusal::MassTooSmall);
             }
+            let start = places::element_start(shape, tracer, i, j);
+            let end = start + 10;
             element::withdraw(&mut field[start..end], q);
             Outcome::Accepted
         }

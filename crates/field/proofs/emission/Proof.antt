@@ -10,7 +10,7 @@ use Rattle.rules.specs.Answers.{accepted, reading}
 use Rattle.rules.specs.Field.{quadratic, onGrid, element, mass, part}
 use Rattle.rules.specs.Calls.{totalReading, emitted}
 use Rattle.field.specs.Places.{Inside, elementStart}
-use Rattle.field.proofs.PlaceLaws.{element-room, field-is, field-le}
+use Rattle.field.proofs.PlaceLaws.{element-ends}
 use Rattle.field.proofs.LoadLaws.{part-size}
 use Rattle.rules.specs.Calls.{emission, done}
 use Rattle.rules.proofs.CallLaws.{length-emitted}
@@ -68,10 +68,7 @@ element-start-requires c κs = within (c .before)
 ends : (c : tie.After-element-start) → (c .element-start .result + 10 ≤ length (c .before .before .before .before .before .before .before .before .before .before .args .field .now)) × (c .element-start .result + 10 ≤ 327680)
 ends c =
     let a = c .before .before .before .before .before .before .before .before .before .before .args in
-    let h = found (a .shape) (a .tracer) (a .field .now) _ (read (c .before .before .before .before)) in
-    let w = within (c .before .before) in
-    let r = element-room (a .shape) (a .tracer) (a .i) (a .j) w in
-    (omega (arith, r, h .room, c .element-start .ensures), omega (arith, r, field-is (a .shape), field-le (a .shape) (w .sized), c .element-start .ensures))
+    element-ends (a .shape) (a .tracer) (a .i) (a .j) (within (c .before .before)) _ (found (a .shape) (a .tracer) (a .field .now) _ (read (c .before .before .before .before)) .room) _ (c .element-start .ensures)
 
 add-end : tie.Need-add-end
 add-end c = record { fits = omega (arith, ends c) }

@@ -1,0 +1,186 @@
+//! Random lists of calls: conservation, the ledger, struck calls.
+
+use reference::checks::{element_mass, weighted_numbers};
+use reference::flux::face_elements;
+use reference::lists::{Answer, Call, State};
+use reference::{generator, Shape};
+
+const SHAPES: [(usize, usize, usize); 8] = [
+    (1, 1, 1),
+    (1, 2, 2),
+    (2, 1, 3),
+    (2, 2, 8),
+    (1, 5, 1),
+    (5, 1, 2),
+    (3, 4, 2),
+    (7, 6, 3),
+];
+
+fn calls(seed: u64, (nx, ny, k): (usize, usize, usize)) -> Vec<Call> {
+    let script = generator::script(seed, nx, ny, k, 300).unwrap();
+    let lines = script.lines().skip(1);
+    lines.map(|line| line.parse().unwrap()).collect()
+}
+
+fn masses(state: &State) -> Vec<u64> {
+    state.field.chunks_exact(10).map(element_mass).collect()
+}
+
+#[test]
+fn steps_conserve_the_total() {
+    let mut steps = 0;
+    for (seed, &(nx, ny, k)) in SHAPES.iter().cycle().take(80).enumerate() {
+        let mut state = State::new(nx, ny, k);
+        for call in calls(seed as u64, (nx, ny, k)) {
+            let before = masses(&state);
+            if let (Call::Step(smoke), Answer::Stepped(_)) = (&call, state.run(&call)) {
+                let after = masses(&state);
+                let part = smoke * nx * ny..(smoke + 1) * nx * ny;
+                let sum = |all: &[u64]| all[part.clone()].iter().sum::<u64>();
+                assert_eq!(sum(&before), sum(&after));
+                assert!(state.field.chunks_exact(10).all(|e| e[9] <= 35));
+                steps += 1;
+            }
+        }
+    }
+    assert!(steps > 4000);
+}
+
+/// The ledger of document 01, fed with arguments and answers alone.
+struct Ledger {
+    shape: Shape,
+    held: Vec<i64>,
+}
+
+impl Ledger {
+    fn at(&self, smoke: usize, i: usize, j: usize) -> usize {
+        smoke * self.shape.elements() + self.shape.element(i, j)
+    }
+
+    fn feed(&mut self, call: &Call, answer: &Answer) {
+        if let Answer::Refused(_) = answer {
+            return;
+        }
+        match (call, answer) {
+            (Call::Load(smoke, numbers), _) => {
+                let start = self.at(*smoke, 0, 0);
+                for at in 0..self.shape.elements() {
+                    let nodes = &numbers[9 * at..9 * at + 9];
+                    self.held[start + at] = weighted_numbers(nodes) as i64;
+                }
+            }
+            (Call::Emission(smoke, i, j, q), _) => {
+                let at = self.at(*smoke, *i, *j);
+                self.held[at] += *q as i64;
+            }
+            (Call::Withdrawal(smoke, i, j, q), _) => {
+                let at = self.at(*smoke, *i, *j);
+                self.held[at] -= *q as i64;
+            }
+            (Call::Step(smoke), Answer::Stepped(report)) => {
+                let start = self.at(*smoke, 0, 0);
+                for (face, &moved) in report.iter().enumerate() {
+                    let (low, high) = face_elements(self.shape, face);
+                    self.held[start + low] -= i64::from(moved);
+                    self.held[start + high] += i64::from(moved);
+                }
+            }
+            _ => {}
+        }
+    }
+}
+
+#[test]
+fn the_ledger_holds_every_mass() {
+    for (seed, &(nx, ny, k)) in SHAPES.iter().cycle().take(80).enumerate() {
+        let shape = Shape { nx, ny, k };
+        let held = vec![0; k * nx * ny];
+        let mut ledger = Ledger { shape, held };
+        let mut state = State::new(nx, ny, k);
+        for call in calls(1000 + seed as u64, (nx, ny, k)) {
+            let answer = state.run(&call);
+            ledger.feed(&call, &answer);
+            assert!(ledger
+                .held
+                .iter()
+                .zip(masses(&state))
+                .all(|(&a, b)| a == b as i64));
+        }
+    }
+}
+
+fn smoke_of(call: &Call) -> Option<usize> {
+    match call {
+        Call::Wind(..) => None,
+        Call::Load(s, _) | Call::Step(s) | Call::Total(s) | Call::Mass(s, _, _) => Some(*s),
+        Call::Emission(s, _, _, _) | Call::Withdrawal(s, _, _, _) => Some(*s),
+    }
+}
+
+#[test]
+fn other_smokes_can_be_struck() {
+    for (seed, shape) in [(1, (3, 4, 2)), (2, (2, 2, 8)), (3, (5, 1, 2))] {
+        let all = calls(seed, shape);
+        let (nx, ny, k) = shape;
+        let mut whole = State::new(nx, ny, k);
+        let answers: Vec<Answer> = all.iter().map(|call| whole.run(call)).collect();
+        for kept in 0..k {
+            let mut state = State::new(nx, ny, k);
+            for (call, answer) in all.iter().zip(&answers) {
+                if smoke_of(call).is_none_or(|smoke| smoke == kept) {
+                    assert_eq!(state.run(call), *answer);
+                }
+            }
+            let part = kept * 10 * nx * ny..(kept + 1) * 10 * nx * ny;
+            assert_eq!(state.field[part.clone()], whole.field[part]);
+        }
+    }
+}
+
+#[test]
+fn lists_meet_every_refusal_they_can() {
+    let mut met = [0; 11];
+    for (seed, &(nx, ny, k)) in SHAPES.iter().cycle().take(80).enumerate() {
+        let mut state = State::new(nx, ny, k);
+        for call in calls(2000 + seed as u64, (nx, ny, k)) {
+            if let Answer::Refused(number) = state.run(&call) {
+                met[number as usize] += 1;
+            }
+        }
+    }
+    assert_eq!((met[1], met[2], met[3], met[6]), (0, 0, 0, 0));
+    for number in [4, 5, 7, 8, 9, 10] {
+        assert!(
+            met[number] > 100,
+            "refusal {number} met {} times",
+            met[number]
+        );
+    }
+}
+
+#[test]
+fn scripts_come_back_the_same() {
+    let script = generator::script(5, 3, 2, 2, 200).unwrap();
+    let mut again = "grid 3 2 2\n".to_string();
+    for line in script.lines().skip(1) {
+        again.push_str(&format!("{}\n", line.parse::<Call>().unwrap()));
+    }
+    assert_eq!(script, again);
+}
+
+#[test]
+fn a_list_prints_its_answers() {
+    let script = "grid 1 1 1\nwind east 0 0 1024\nload 0 7 7 7 7 7 7 7 7 7\n\
+                  emission 0 0 0 5\nstep 0\nmass 0 0 0\ntotal 0\ntotal 1\n\
+                  withdrawal 0 0 0 258\nload 0 1\n";
+    let printed = "accepted\naccepted\naccepted\naccepted 63 0\n257\n257\nrefused 7\n\
+                   refused 10\nrefused 4\nfield 7 7 7 7 7 7 7 7 7 5\nwind 1024 0\n";
+    assert_eq!(reference::lists::output(script).unwrap(), printed);
+}
+
+/// Slow enough to show a wasteful step, even unoptimised.
+#[test]
+fn a_large_grid_is_quick() {
+    let script = generator::script(9, 64, 64, 1, 40).unwrap();
+    assert!(reference::lists::output(&script).is_ok());
+}
