@@ -92,16 +92,19 @@ module _ (g : Shape) (s : ℕ) (f : List ℕ) where
         small = omega (arith, total-small (there (ltb s (g .tracers)) (c .1 .1 .1 .0) (c .1 .1 .0)));
       })
 
-  -- the calls go on from there
+  -- the calls go on from there: those that are lent nothing beside the field
+  going-on : (ds : List Check) → _≡_ {A = Answer (List ℤ)}
+      (answer (check 2 (admitted g) ∷ check 4 (leb (fieldLength quadratic g) (length f) && true) ∷ check 6 (soundIfThere quadratic g (ltb s (g .tracers)) p) ∷ check 7 (ltb s (g .tracers)) ∷ ds) [])
+      (answer (first ++ ds) [])
+  going-on ds = λ k. answer (check 2 (admitted g) ∷ check 4 (and-true (leb (fieldLength quadratic g) (length f)) k) ∷ check 6 (soundIfThere quadratic g (ltb s (g .tracers)) p) ∷ check 7 (ltb s (g .tracers)) ∷ ds) []
+
   pub emission-reply : (i j q : ℕ) → call quadratic g s (emission i j q) f .reply ≡ answer (first ++ (check 8 (onGrid g i j) ∷ check 9 (leb (total quadratic g p + q) limit) ∷ [])) []
   unfolding call checks lentEnough done
-  emission-reply i j q = λ k. answer (check 2 (admitted g) ∷ check 4 (and-true (leb (fieldLength quadratic g) (length f)) k) ∷ check 6 (soundIfThere quadratic g (ltb s (g .tracers)) p) ∷ check 7 (ltb s (g .tracers))
-      ∷ check 8 (onGrid g i j) ∷ check 9 (leb (total quadratic g p + q) limit) ∷ []) []
+  emission-reply i j q = going-on (check 8 (onGrid g i j) ∷ check 9 (leb (total quadratic g p + q) limit) ∷ [])
 
   pub withdrawal-reply : (i j q : ℕ) → call quadratic g s (withdrawal i j q) f .reply ≡ answer (first ++ (check 8 (onGrid g i j) ∷ check 10 (leb q (mass quadratic p (element g i j))) ∷ [])) []
   unfolding call checks lentEnough done
-  withdrawal-reply i j q = λ k. answer (check 2 (admitted g) ∷ check 4 (and-true (leb (fieldLength quadratic g) (length f)) k) ∷ check 6 (soundIfThere quadratic g (ltb s (g .tracers)) p) ∷ check 7 (ltb s (g .tracers))
-      ∷ check 8 (onGrid g i j) ∷ check 10 (leb q (mass quadratic p (element g i j))) ∷ []) []
+  withdrawal-reply i j q = going-on (check 8 (onGrid g i j) ∷ check 10 (leb q (mass quadratic p (element g i j))) ∷ [])
 
   pub mass-reply : (i j : ℕ) → massReading quadratic g s i j f ≡ answer (first ++ (check 8 (onGrid g i j) ∷ [])) (mass quadratic p (element g i j))
   unfolding massReading

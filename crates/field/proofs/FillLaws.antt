@@ -19,10 +19,10 @@ use Rattle.rules.specs.declared.Way.the-variants.{East, North}
 use Rattle.rules.specs.Answers.{Answer, accepted, refused, answer, after, plain}
 use Rattle.rules.specs.Field.{quadratic, admitted, elements, faces, onGrid, tracerLength, fieldLength, withPart, weighted, mass, total, limit}
 use Rattle.rules.specs.Grid.{faceIndex}
-use Rattle.rules.specs.Calls.{windInRange, windReply, windAfter, freshReply, freshField, freshWind, zeroField, zeroWind, load, loaded, loadedValue, lentEnough, checks, done, call}
+use Rattle.rules.specs.Calls.{windInRange, windReply, windAfter, freshReply, freshField, freshWind, zeroField, zeroWind, load, loaded, loadedElement, loadedValue, lentEnough, checks, done, call}
 use Rattle.rules.proofs.FieldLaws.{ranges}
 use Rattle.rules.proofs.PartLaws.{mass-loaded, length-loaded}
-use Rattle.field.specs.Places.{Sized, Inside, laid}
+use Rattle.field.specs.Places.{Sized, Inside}
 use Rattle.field.proofs.PlaceLaws.{sized, element-lt}
 
 module _ (g : Shape) where
@@ -92,9 +92,9 @@ module _ (g : Shape) (numbers : List ℕ) where
   unfolding total
   load-total = sum-cong (elements g) (mass quadratic (loaded quadratic g numbers)) (λ e. weighted quadratic (loadedValue quadratic numbers e)) (mass-loaded quadratic g numbers)
 
-  laid-is : blocks (elements g) (laid numbers) ≡ loaded quadratic g numbers
-  unfolding loaded laid quadratic
-  laid-is = refl
+  loaded-is : blocks (elements g) (loadedElement quadratic numbers) ≡ loaded quadratic g numbers
+  unfolding loaded
+  loaded-is = refl
 
 module _ (g : Shape) (s : ℕ) (numbers field : List ℕ) where
   abbrev Loaded : Answer (Unit {0}) → List ℕ → Type 0
@@ -126,8 +126,8 @@ module _ (g : Shape) (s : ℕ) (numbers field : List ℕ) where
   unfolding call lentEnough checks done quadratic answer after plain
   load-done a l k t m = rw (a, le-leb (fieldLength quadratic g) (length field) l, le-leb (elements g * 9) (length numbers) k, lt-ltb s (g .tracers) t, le-leb (total quadratic g (loaded quadratic g numbers)) limit m) (refl, refl)
 
-  -- the part that was lent and laid, back in its place
-  pub load-back : (at k : ℕ) (p : List ℕ) → at ≡ s * tracerLength quadratic g → k ≡ tracerLength quadratic g → p ≡ blocks (elements g) (laid numbers)
+  -- the part that was lent and written, back in its place
+  pub load-back : (at k : ℕ) (p : List ℕ) → at ≡ s * tracerLength quadratic g → k ≡ tracerLength quadratic g → p ≡ blocks (elements g) (loadedElement quadratic numbers)
       → take at field ++ (p ++ drop k (drop at field)) ≡ withPart quadratic g s (loaded quadratic g numbers) field
   unfolding withPart overwrite
-  load-back at k p ha hk hp = rw (ha, hk ∙ sym (length-loaded quadratic g numbers), hp ∙ laid-is g numbers)
+  load-back at k p ha hk hp = rw (ha, hk ∙ sym (length-loaded quadratic g numbers), hp ∙ loaded-is g numbers)

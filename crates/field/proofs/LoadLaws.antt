@@ -6,7 +6,7 @@ use native.Mathlib.Nat.{zero-add}
 use native.Mathlib.Omega.{arith}
 use lib.Dec.{leb, leb→le}
 use lib.IntN.{ℤ, pos}
-use lib.ListN.{length, getD, take, drop, length-append, length-take, length-drop}
+use lib.ListN.{length, getD, take, drop, length-take, length-drop}
 use lib.Seq.{getD-take, getD-drop}
 use Rattle.whole.specs.Sum.{all}
 use Rattle.whole.specs.Table.{table}
@@ -14,11 +14,12 @@ use Rattle.whole.proofs.SumLaws.{sum-cong, all-at}
 use Rattle.whole.proofs.TableLaws.{length-table, getD-table, table-cong}
 use Rattle.rules.specs.Field.{quadratic, elementLength, cell, weighted, mass}
 use Rattle.rules.specs.Limiter.{closed, closedUnlevelled}
-use Rattle.rules.specs.Calls.{loadedValue, emitted, withdrawn}
+use Rattle.rules.specs.Calls.{loadedValue, loadedElement, emitted, withdrawn}
 use Rattle.rules.proofs.LimiterLaws.{closed-cong, unlevelled-cong}
-use Rattle.rules.proofs.PartLaws.{value-le-mass}
+use Rattle.rules.proofs.PartLaws.{value-le-mass, length-loaded-element}
 use Rattle.limiter.specs.Sizes.{Tentative, at}
-use Rattle.field.specs.Places.{laid, tenWeights, weighed}
+use Rattle.field.specs.Places.{tenWeights, weighed}
+use Rattle.field.proofs.PlaceLaws.{ten}
 use Rattle.field.proofs.ElementLaws.{node-weight}
 
 -- ---- a lent part of a list
@@ -30,9 +31,9 @@ part-size w s k l e h = rw (e, length-take, length-drop) (omega arith)
 
 -- ---- the nine numbers of element e of a load
 module _ (l : List ℕ) (e k : ℕ) (nine : k ≡ 9) where
-  pub laid-part : laid (take k (drop (e * 9) l)) 0 ≡ laid l e
-  unfolding laid loadedValue quadratic
-  laid-part = ap (λ t. t ++ (0 ∷ [])) (table-cong 9 (λ i. getD (take k (drop (e * 9) l)) (0 * 9 + i) 0) (λ i. getD l (e * 9 + i) 0)
+  pub loaded-part : loadedElement quadratic (take k (drop (e * 9) l)) 0 ≡ loadedElement quadratic l e
+  unfolding loadedElement loadedValue quadratic
+  loaded-part = ap (λ t. t ++ (0 ∷ [])) (table-cong 9 (λ i. getD (take k (drop (e * 9) l)) (0 * 9 + i) 0) (λ i. getD l (e * 9 + i) 0)
       (λ i h. ap (λ n. getD (take k (drop (e * 9) l)) n 0) (zero-add i) ∙ part-at 9 (e * 9) k l i nine h))
 
   pub weighed-part : weighed (take k (drop (e * 9) l)) 9 ≡ weighted quadratic (loadedValue quadratic l e)
@@ -40,9 +41,8 @@ module _ (l : List ℕ) (e k : ℕ) (nine : k ≡ 9) where
   weighed-part = sum-cong 9 (λ v. getD tenWeights v 0 * getD (take k (drop (e * 9) l)) v 0) (λ v. quadratic .weight v * getD l (e * 9 + v) 0)
       (λ v h. λ i. node-weight v h i * part-at 9 (e * 9) k l v nine h i)
 
-pub laid-length : (l : List ℕ) (e : ℕ) → length (laid l e) ≡ 10
-unfolding laid
-laid-length l e = length-append (table 9 (loadedValue quadratic l e)) (0 ∷ []) ∙ ap (λ n. n + 1) (length-table 9 (loadedValue quadratic l e))
+pub loaded-length : (l : List ℕ) (e : ℕ) → length (loadedElement quadratic l e) ≡ 10
+loaded-length l e = length-loaded-element quadratic l e ∙ ten
 
 -- ---- an element's own values, as the closing takes them
 module _ (p : List ℕ) where

@@ -1,17 +1,10 @@
 -- An admitted shape by its bounds, and where numbers stand.
-use mathlib.Core.Bool.{Bool, _&&_}
-use mathlib.Core.List.{List, [], _∷_, _++_}
+use mathlib.Core.List.{List, [], _∷_}
 use Prim.Native.Nat.{ℕ, _+_, _*_, _≤_, _<_}
-use lib.Dec.{leb}
 use lib.ListN.{getD}
 use Rattle.whole.specs.Sum.{sum}
-use Rattle.whole.specs.Table.{table}
 use Rattle.rules.specs.declared.Shape.{Shape}
 use Rattle.rules.specs.Field.{quadratic, element, elementLength, tracerLength}
-use Rattle.rules.specs.Calls.{loadedValue}
-
-abbrev pub between : ℕ → ℕ → ℕ → Bool
-between low x high = leb low x && leb x high
 
 -- a shape whose numbers are not too large
 pub record Sized (g : Shape) : Type 0 where
@@ -29,10 +22,6 @@ pub record Inside (g : Shape) (s i j : ℕ) : Type 0 where
 -- where element (i, j) of tracer s starts in the field
 unfoldable pub elementStart : Shape → ℕ → ℕ → ℕ → ℕ
 elementStart g s i j = s * tracerLength quadratic g + element g i j * elementLength quadratic
-
--- the ten numbers of element e after a load
-unfoldable pub laid : List ℕ → ℕ → List ℕ
-laid numbers e = table 9 (loadedValue quadratic numbers e) ++ (0 ∷ [])
 
 -- the weights of an element's ten numbers, and the weighted sum of the first n of them
 abbrev pub tenWeights : List ℕ

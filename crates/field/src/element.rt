@@ -8,10 +8,11 @@ ghost use Rattle.rules.specs.Field.{quadratic, mass};
 ghost use Rattle.rules.specs.Calls.{emitted, withdrawn};
 ghost use Rattle.field.specs.Places.{weighed};
 
-const WEIGHTS: [u64; 10] = [1, 4, 1, 4, 16, 4, 1, 4, 1, 1];
+// The weights of an element's ten numbers: nine nodes, and the remainder.
+pub(crate) const WEIGHTS: [u64; 10] = [1, 4, 1, 4, 16, 4, 1, 4, 1, 1];
 
 // The weighted sum of the first n of an element's numbers: nine values, and the remainder.
-pub fn weigh(numbers: &[u32], n: usize) -> u64
+pub(crate) fn weigh(numbers: &[u32], n: usize) -> u64
     requires { ⌜ n ≤ 10 ⌝ }
     requires { ⌜ n ≤ length (now numbers) ⌝ }
     ensures { λ r. ⌜ r ≡ weighed (now (numbers .entry)) n ⌝ }
@@ -25,7 +26,7 @@ pub fn weigh(numbers: &[u32], n: usize) -> u64
 }
 
 // What an element holds.
-pub fn mass(part: &[u32]) -> u64
+pub(crate) fn mass(part: &[u32]) -> u64
     requires { ⌜ length (now part) ≡ 10 ⌝ }
     ensures { λ r. ⌜ r ≡ mass quadratic (now (part .entry)) 0 ⌝ }
 {
@@ -45,7 +46,7 @@ fn values(part: &[u32]) -> [i64; 9]
 }
 
 // Emission of q: closes the element to its mass and q more.
-pub fn emit(part: &mut [u32], q: u64)
+pub(crate) fn emit(part: &mut [u32], q: u64)
     requires { ⌜ length (now part) ≡ 10 ⌝ }
     requires { ⌜ mass quadratic (now part) 0 + q ≤ 100000000 ⌝ }
     ensures { λ _. ⌜ now (part .exit) ≡ emitted quadratic 0 q (now (part .entry)) ⌝ }
@@ -56,7 +57,7 @@ pub fn emit(part: &mut [u32], q: u64)
 }
 
 // Withdrawal of q: closes the element to its mass less q, without levelling.
-pub fn withdraw(part: &mut [u32], q: u64)
+pub(crate) fn withdraw(part: &mut [u32], q: u64)
     requires { ⌜ length (now part) ≡ 10 ⌝ }
     requires { ⌜ mass quadratic (now part) 0 ≤ 100000000 ⌝ }
     requires { ⌜ q ≤ mass quadratic (now part) 0 ⌝ }

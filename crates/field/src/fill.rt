@@ -7,12 +7,11 @@ ghost use lib.ListN.{length, replicate, getD, drop};
 ghost use Rattle.whole.specs.Sum.{sum};
 ghost use Rattle.whole.specs.Table.{table, blocks, overwrite};
 ghost use Rattle.rules.specs.Field.{quadratic, weighted};
-ghost use Rattle.rules.specs.Calls.{loadedValue};
-ghost use Rattle.field.specs.Places.{laid};
+ghost use Rattle.rules.specs.Calls.{loadedValue, loadedElement};
 use super::element;
 
 // Zeros over the first n numbers.
-pub fn clear(field: &mut [u32], n: usize)
+pub(crate) fn clear(field: &mut [u32], n: usize)
     requires { ⌜ n ≤ length (now field) ⌝ }
     ensures { λ _. ⌜ now (field .exit) ≡ overwrite 0 (replicate n 0) (now (field .entry)) ⌝ }
 {
@@ -22,7 +21,7 @@ pub fn clear(field: &mut [u32], n: usize)
 }
 
 // Zeros over the first n wind numbers.
-pub fn clear_wind(winds: &mut [i16], n: usize)
+pub(crate) fn clear_wind(winds: &mut [i16], n: usize)
     requires { ⌜ n ≤ length (now winds) ⌝ }
     ensures { λ _. ⌜ now (winds .exit) ≡ overwrite 0 (replicate n (pos 0)) (now (winds .entry)) ⌝ }
 {
@@ -32,7 +31,7 @@ pub fn clear_wind(winds: &mut [i16], n: usize)
 }
 
 // The total of n elements that are loaded with these numbers.
-pub fn loaded_total(numbers: &[u32], n: usize) -> u64
+pub(crate) fn loaded_total(numbers: &[u32], n: usize) -> u64
     requires { ⌜ n ≤ 4096 ⌝ }
     requires { ⌜ n * 9 ≤ length (now numbers) ⌝ }
     ensures { λ r. ⌜ r ≡ sum n (λ e. weighted quadratic (loadedValue quadratic (now (numbers .entry)) e)) ⌝ }
@@ -51,7 +50,7 @@ pub fn loaded_total(numbers: &[u32], n: usize) -> u64
 fn lay_element(part: &mut [u32], numbers: &[u32])
     requires { ⌜ length (now part) ≡ 10 ⌝ }
     requires { ⌜ length (now numbers) ≡ 9 ⌝ }
-    ensures { λ _. ⌜ now (part .exit) ≡ laid (now (numbers .entry)) 0 ⌝ }
+    ensures { λ _. ⌜ now (part .exit) ≡ loadedElement quadratic (now (numbers .entry)) 0 ⌝ }
 {
     for k in 0..9 {
         part[k] = numbers[k];
@@ -60,11 +59,11 @@ fn lay_element(part: &mut [u32], numbers: &[u32])
 }
 
 // Loads n elements.
-pub fn lay(part: &mut [u32], numbers: &[u32], n: usize)
+pub(crate) fn lay(part: &mut [u32], numbers: &[u32], n: usize)
     requires { ⌜ length (now part) ≡ n * 10 ⌝ }
     requires { ⌜ n ≤ 4096 ⌝ }
     requires { ⌜ n * 9 ≤ length (now numbers) ⌝ }
-    ensures { λ _. ⌜ now (part .exit) ≡ blocks n (laid (now (numbers .entry))) ⌝ }
+    ensures { λ _. ⌜ now (part .exit) ≡ blocks n (loadedElement quadratic (now (numbers .entry))) ⌝ }
 {
     let mut from = 0;
     let mut to = 0;

@@ -9,14 +9,13 @@ use rules::Outcome;
 use rules::Reading;
 use rules::Refusal;
 use rules::Shape;
+use search::LIMIT;
 use search::Total;
 
-pub mod element; // element.rt: one element's ten numbers
-pub mod fill; // fill.rt: loops that fill a buffer
+mod element; // element.rt: one element's ten numbers
+mod fill; // fill.rt: loops that fill a buffer
 pub mod places; // places.rt: shapes, and where numbers stand
 pub mod search; // search.rt: the search of a tracer's numbers
-
-const LIMIT: u64 = 100_000_000;
 
 // A tracer's total. Its checks (2, 4, 6, 7) are the first ones of every call on a sound tracer.
 pub fn total(field: &[u32], shape: Shape, tracer: usize) -> Reading

@@ -1,7 +1,7 @@
 // Shapes, and where the numbers of a shape stand in its buffers. All but the tests are leaves, for an admitted shape.
 ghost use mathlib.Core.Path.{_≡_};
 ghost use Prim.Native.Nat.{_*_, _+_, _<_};
-ghost use Rattle.rules.specs.Field.{quadratic, admitted, elements, faces, element, onGrid, elementLength, tracerLength, fieldLength};
+ghost use Rattle.rules.specs.Field.{quadratic, from1to, admitted, elements, faces, element, onGrid, elementLength, tracerLength, fieldLength};
 ghost use Rattle.rules.specs.Grid.{faceIndex};
 ghost use Rattle.rules.specs.Calls.{windInRange};
 ghost use Rattle.field.specs.Places.{Sized, Inside, elementStart};
@@ -9,26 +9,27 @@ use rules::Face;
 use rules::Shape;
 use rules::Way;
 
-fn between(low: usize, x: usize, high: usize) -> bool
-    ensures { λ r. ⌜ r ≡ Rattle.field.specs.Places.between low x high ⌝ }
+// Whether n is from 1 to most.
+fn from_1_to(most: usize, n: usize) -> bool
+    ensures { λ r. ⌜ r ≡ from1to most n ⌝ }
 {
-    if x < low {
+    if n < 1 {
         return false;
     }
-    x <= high
+    n <= most
 }
 
 // Whether nx and ny are from 1 to 64 and there are 1 to 8 tracers.
 pub fn admitted(shape: Shape) -> bool
     ensures { λ r. ⌜ r ≡ admitted shape ⌝ }
 {
-    if !between(1, shape.nx, 64) {
+    if !from_1_to(64, shape.nx) {
         return false;
     }
-    if !between(1, shape.ny, 64) {
+    if !from_1_to(64, shape.ny) {
         return false;
     }
-    between(1, shape.tracers, 8)
+    from_1_to(8, shape.tracers)
 }
 
 // Whether there is an element (i, j).
@@ -48,6 +49,7 @@ pub fn wind_in_range(c: i16) -> bool
     c <= 1024
 }
 
+// The elements of one tracer.
 pub fn elements(shape: Shape) -> usize
     requires { ⌜ Sized shape ⌝ }
     ensures { λ r. ⌜ r ≡ elements shape ⌝ }
@@ -55,6 +57,7 @@ pub fn elements(shape: Shape) -> usize
     shape.nx * shape.ny
 }
 
+// The faces: an east and a north one for each element.
 pub fn faces(shape: Shape) -> usize
     requires { ⌜ Sized shape ⌝ }
     ensures { λ r. ⌜ r ≡ faces shape ⌝ }
@@ -63,6 +66,7 @@ pub fn faces(shape: Shape) -> usize
     n + n
 }
 
+// The numbers of one tracer.
 pub fn tracer_length(shape: Shape) -> usize
     requires { ⌜ Sized shape ⌝ }
     ensures { λ r. ⌜ r ≡ tracerLength quadratic shape ⌝ }
@@ -70,6 +74,7 @@ pub fn tracer_length(shape: Shape) -> usize
     elements(shape) * 10
 }
 
+// The numbers of the field.
 pub fn field_length(shape: Shape) -> usize
     requires { ⌜ Sized shape ⌝ }
     ensures { λ r. ⌜ r ≡ fieldLength quadratic shape ⌝ }

@@ -4,6 +4,7 @@ ghost use lib.ListN.{length};
 ghost use Rattle.rules.specs.Field.{quadratic, tracerLength};
 ghost use Rattle.field.specs.Places.{Sized};
 ghost use Rattle.field.specs.Search.{searched};
+use super::element::WEIGHTS;
 use rules::Shape;
 
 // What the search finds: the tracer's total, or a remainder or a total out of range.
@@ -12,9 +13,8 @@ pub enum Total {
     Unsound,
 }
 
-const LIMIT: u64 = 100_000_000;
-
-const WEIGHTS: [u64; 10] = [1, 4, 1, 4, 16, 4, 1, 4, 1, 1];
+// The largest total of a tracer.
+pub(crate) const LIMIT: u64 = 100_000_000;
 
 // A leaf: the total of a tracer's part, unless a remainder is above 35 or the total above the limit.
 pub fn tracer_total(part: &[u32], shape: Shape) -> Total

@@ -1,6 +1,6 @@
 -- A tracer's part: its numbers, masses and total, after its elements are made anew or one of them is replaced.
 use mathlib.Core.Path.{_≡_, sym, ap, ap₂, _∙_}
-use mathlib.Core.List.{List, [], _∷_, _++_}
+use mathlib.Core.List.{List, [], _∷_}
 use mathlib.Core.Logic.{_≢_}
 use Prim.Native.Nat.{ℕ, _+_, _*_, _≤_, _<_}
 use native.Mathlib.Nat.{add-zero, one-mul, mul-le-mul-right}
@@ -15,7 +15,7 @@ use Rattle.whole.proofs.TableLaws.{length-table, getD-table, length-blocks, get
 use Rattle.whole.proofs.OverwriteLaws.{part-room, number-same, number-other, length-replaced}
 use Rattle.rules.specs.declared.Shape.{Shape}
 use Rattle.rules.specs.Field.{Kind, elements, elementLength, tracerLength, fieldLength, part, cell, remainder, weighted, mass, total, limit, weightSum}
-use Rattle.rules.specs.Calls.{loaded, loadedValue, withElement}
+use Rattle.rules.specs.Calls.{loaded, loadedElement, loadedValue, withElement}
 
 -- what demand 3 says of a tracer's part: its length, its remainders, its total
 pub record Good (κ : Kind) (g : Shape) (p : List ℕ) : Type 0 where
@@ -96,35 +96,34 @@ module _ (κ : Kind) (g : Shape) (e : ℕ) (x p : List ℕ) (he : e < elements g
   pub remainder-elsewhere : (e′ : ℕ) → e ≢ e′ → remainder κ (withElement κ e x p) e′ ≡ remainder κ p e′
   remainder-elsewhere e′ ne = remainder-same κ (withElement κ e x p) p e′ (cell-elsewhere e′ ne)
 
--- ---- a loaded part
-module _ (κ : Kind) (g : Shape) (numbers : List ℕ) where
-  abbrev laid : ℕ → List ℕ
-  laid e = table (κ .nodes) (loadedValue κ numbers e) ++ (0 ∷ [])
+-- ---- a loaded element, and a loaded part
+module _ (κ : Kind) (numbers : List ℕ) where
+  pub length-loaded-element : (e : ℕ) → length (loadedElement κ numbers e) ≡ elementLength κ
+  unfolding elementLength loadedElement
+  length-loaded-element e = length-append (table (κ .nodes) (loadedValue κ numbers e)) (0 ∷ []) ∙ omega (arith, length-table (κ .nodes) (loadedValue κ numbers e))
 
-  length-laid : (e : ℕ) → length (laid e) ≡ elementLength κ
-  unfolding elementLength
-  length-laid e = length-append (table (κ .nodes) (loadedValue κ numbers e)) (0 ∷ []) ∙ omega (arith, length-table (κ .nodes) (loadedValue κ numbers e))
+  loaded-element-remainder : (e : ℕ) → getD (loadedElement κ numbers e) (κ .nodes) 0 ≡ 0
+  unfolding loadedElement
+  loaded-element-remainder e = getD-at (table (κ .nodes) (loadedValue κ numbers e)) 0 [] 0 (κ .nodes) (length-table (κ .nodes) (loadedValue κ numbers e))
 
-  laid-remainder : (e : ℕ) → getD (laid e) (κ .nodes) 0 ≡ 0
-  laid-remainder e = getD-at (table (κ .nodes) (loadedValue κ numbers e)) 0 [] 0 (κ .nodes) (length-table (κ .nodes) (loadedValue κ numbers e))
-
-  held-laid : (e : ℕ) → held κ (laid e) ≡ weighted κ (loadedValue κ numbers e)
-  unfolding held weighted
-  held-laid e = ap₂ _+_ (sum-cong (κ .nodes) (λ k. κ .weight k * getD (laid e) k 0) (λ k. κ .weight k * loadedValue κ numbers e k)
+  held-loaded-element : (e : ℕ) → held κ (loadedElement κ numbers e) ≡ weighted κ (loadedValue κ numbers e)
+  unfolding held weighted loadedElement
+  held-loaded-element e = ap₂ _+_ (sum-cong (κ .nodes) (λ k. κ .weight k * getD (loadedElement κ numbers e) k 0) (λ k. κ .weight k * loadedValue κ numbers e k)
       (λ k h. ap (λ y. κ .weight k * y) (List·getD-append (table (κ .nodes) (loadedValue κ numbers e)) (0 ∷ []) 0 k (omega (arith, length-table (κ .nodes) (loadedValue κ numbers e)))
-      ∙ getD-table (κ .nodes) (loadedValue κ numbers e) k 0 h))) (laid-remainder e) ∙ add-zero (sum (κ .nodes) (λ k. κ .weight k * loadedValue κ numbers e k))
+      ∙ getD-table (κ .nodes) (loadedValue κ numbers e) k 0 h))) (loaded-element-remainder e) ∙ add-zero (sum (κ .nodes) (λ k. κ .weight k * loadedValue κ numbers e k))
 
+module _ (κ : Kind) (g : Shape) (numbers : List ℕ) where
   pub length-loaded : length (loaded κ g numbers) ≡ tracerLength κ g
   unfolding loaded tracerLength
-  length-loaded = length-blocks (elementLength κ) laid length-laid (elements g)
+  length-loaded = length-blocks (elementLength κ) (loadedElement κ numbers) (length-loaded-element κ numbers) (elements g)
 
   pub mass-loaded : (e : ℕ) → e < elements g → mass κ (loaded κ g numbers) e ≡ weighted κ (loadedValue κ numbers e)
   unfolding loaded
-  mass-loaded e h = mass-blocks κ (elements g) laid length-laid e h ∙ held-laid e
+  mass-loaded e h = mass-blocks κ (elements g) (loadedElement κ numbers) (length-loaded-element κ numbers) e h ∙ held-loaded-element κ numbers e
 
   pub remainder-loaded : (e : ℕ) → e < elements g → remainder κ (loaded κ g numbers) e ≡ 0
   unfolding loaded
-  remainder-loaded e h = remainder-blocks κ (elements g) laid length-laid e h ∙ laid-remainder e
+  remainder-loaded e h = remainder-blocks κ (elements g) (loadedElement κ numbers) (length-loaded-element κ numbers) e h ∙ loaded-element-remainder κ numbers e
 
 -- ---- totals, and the sizes of what is stored
 module _ (κ : Kind) (p : List ℕ) where

@@ -59,6 +59,11 @@ module _ (κ : Kind) where
   unfoldable pub loadedValue : List ℕ → ℕ → ℕ → ℕ
   loadedValue numbers e k = getD numbers (e * κ .nodes + k) 0
 
+  -- the numbers of element e after a load: "nine u32 per element ..; ρ becomes 0"
+  unfoldable pub loadedElement : List ℕ → ℕ → List ℕ
+  unfolding loadedValue table
+  loadedElement numbers e = table (κ .nodes) (loadedValue numbers e) ++ (0 ∷ [])
+
   -- a part with the numbers of element e replaced
   unfoldable pub withElement : ℕ → List ℕ → List ℕ → List ℕ
   unfolding overwrite elementLength
@@ -77,8 +82,8 @@ module _ (κ : Kind) where
 module _ (κ : Kind) (g : Shape) where
   -- "Load: nine u32 per element for one smoke ..; every element is replaced and ρ becomes 0"
   unfoldable pub loaded : List ℕ → List ℕ
-  unfolding loadedValue table blocks
-  loaded numbers = blocks (elements g) (λ e. table (κ .nodes) (loadedValue κ numbers e) ++ (0 ∷ []))
+  unfolding loadedElement blocks
+  loaded numbers = blocks (elements g) (loadedElement κ numbers)
 
   -- a tracer's part, and the report, after an accepted operation
   unfoldable pub done : Operation Lent → List ℕ → Stepped

@@ -9,7 +9,7 @@ use lib.ListN.{length}
 use Rattle.whole.specs.Table.{blocks}
 use Rattle.rules.specs.Field.{quadratic, admitted, elements, fieldLength, total}
 use Rattle.rules.specs.Calls.{loaded}
-use Rattle.field.specs.Places.{laid}
+use Rattle.rules.specs.Calls.{loadedElement}
 use Rattle.field.proofs.PlaceLaws.{tracer-is, elements-le, field-le, field-is, tracer-room}
 use Rattle.field.proofs.LoadLaws.{part-size}
 use Rattle.field.proofs.FillLaws.{sized-of, load-total, load-back, load-2, load-4-field, load-4-numbers, load-7, load-9, load-done}
@@ -110,7 +110,7 @@ returns-6 c =
     let d = load-done (a .shape) (a .tracer) (a .numbers .now) (a .field .now) (shape (c .before .before .before .before .before .before .before .before .before .before .before .before .before .before)) (room (c .before .before .before .before .before .before .before .before .before .before .before .before)) (enough (c .before .before .before .before .before .before .before .before .before .before)) (c .before .before .before .before .before .before .before .before .if4 .left) (omega (arith, summed (c .before .before .before .before .before .before .before), c .before .before .before .before .before .before .if5 .left)) in (
       d .0,
       load-back (a .shape) (a .tracer) (a .numbers .now) (a .field .now) at (at + n - at) (c .before .before .lay .last .0) (c .before .before .before .before .before .tracer-start .ensures) (add-sub-cancel-left at n ∙ c .before .before .before .before .tracer-length .ensures)
-          (c .before .before .lay .ensures ∙ ap (λ m. blocks m (laid (a .numbers .now))) (c .before .before .before .before .before .before .before .before .before .before .before .elements .ensures)) ∙ d .1,
+          (c .before .before .lay .ensures ∙ ap (λ m. blocks m (loadedElement quadratic (a .numbers .now))) (c .before .before .before .before .before .before .before .before .before .before .before .elements .ensures)) ∙ d .1,
     )
 
 pub load-spec : {M : Type 1} → statement M

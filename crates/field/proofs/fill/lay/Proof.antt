@@ -7,13 +7,14 @@ use native.Mathlib.Nat.{add-sub-cancel-left}
 use lib.ListN.{length, drop, drop-of-length-le}
 use Rattle.whole.specs.Table.{blocks}
 use Rattle.whole.proofs.TableLaws.{fill-block, length-filled}
-use Rattle.field.specs.Places.{laid}
-use Rattle.field.proofs.LoadLaws.{part-size, laid-part, laid-length}
+use Rattle.rules.specs.Field.{quadratic}
+use Rattle.rules.specs.Calls.{loadedElement}
+use Rattle.field.proofs.LoadLaws.{part-size, loaded-part, loaded-length}
 use Rattle.field.proofs.fill.lay.Statement.{statement}
 use Rattle.field.proofs.fill.lay.Tie as tie
 
 abbrev Inv-loop : tie.InvT-loop
-Inv-loop part₀ numbers n from₀ to₀ e₀ part from to e = (e ≤ n) × (from ≡ e * 9) × (to ≡ e * 10) × (part ≡ blocks e (laid numbers) ++ drop (e * 10) part₀)
+Inv-loop part₀ numbers n from₀ to₀ e₀ part from to e = (e ≤ n) × (from ≡ e * 9) × (to ≡ e * 10) × (part ≡ blocks e (loadedElement quadratic numbers) ++ drop (e * 10) part₀)
 
 abbrev μ-loop : tie.MeasureT-loop
 μ-loop part₀ numbers n from₀ to₀ e₀ part from to e = n - e
@@ -32,7 +33,7 @@ add-to-end c = omega (arith, c .before .loop .inv .2)
 long : (c : tie.In-loop Inv-loop μ-loop) → length (c .before .loop .part) ≡ c .before .before .before .before .args .n * 10
 long c =
     let a = c .before .before .before .before .args in
-    ap length (c .before .loop .inv .3) ∙ length-filled 10 (laid (a .numbers .now)) (laid-length (a .numbers .now)) (c .before .loop .e) (a .part .now) (omega (arith, c .before .before .before .before .pre .0)) ∙ c .before .before .before .before .pre .0
+    ap length (c .before .loop .inv .3) ∙ length-filled 10 (loadedElement quadratic (a .numbers .now)) (loaded-length (a .numbers .now)) (c .before .loop .e) (a .part .now) (omega (arith, c .before .before .before .before .pre .0)) ∙ c .before .before .before .before .pre .0
 
 mul-lay-element : tie.Need-mul-lay-element Inv-loop μ-loop
 mul-lay-element c = search needs
@@ -74,18 +75,18 @@ loop-again : tie.Need-loop-again Inv-loop μ-loop
 loop-again c =
     let l = c .before .before .before .before .before .before .loop in
     let a = c .before .before .before .before .before .before .before .before .before .args in
-    let x : c .before .before .lay-element .last .0 ≡ laid (a .numbers .now) (l .e) =
-    c .before .before .lay-element .ensures ∙ (rw (l .inv .1) (laid-part (a .numbers .now) (l .e) (l .e * 9 + 9 - l .e * 9) (add-sub-cancel-left (l .e * 9) 9))) in
-    (omega arith, omega arith, omega arith, rw (l .inv .2) (fill-block 10 (laid (a .numbers .now)) (laid-length (a .numbers .now)) (l .e) (l .e * 10 + 10 - l .e * 10) _ (a .part .now) (l .part) (add-sub-cancel-left (l .e * 10) 10) x (l .inv .3)))
+    let x : c .before .before .lay-element .last .0 ≡ loadedElement quadratic (a .numbers .now) (l .e) =
+    c .before .before .lay-element .ensures ∙ (rw (l .inv .1) (loaded-part (a .numbers .now) (l .e) (l .e * 9 + 9 - l .e * 9) (add-sub-cancel-left (l .e * 9) 9))) in
+    (omega arith, omega arith, omega arith, rw (l .inv .2) (fill-block 10 (loadedElement quadratic (a .numbers .now)) (loaded-length (a .numbers .now)) (l .e) (l .e * 10 + 10 - l .e * 10) _ (a .part .now) (l .part) (add-sub-cancel-left (l .e * 10) 10) x (l .inv .3)))
 
 same-length : tie.Need-same-length Inv-loop μ-loop
-same-length c = let a = c .before .before .before .before .args in ap length (c .before .loop .inv .3) ∙ length-filled 10 (laid (a .numbers .now)) (laid-length (a .numbers .now)) (c .before .loop .e) (a .part .now) (omega (arith, c .before .before .before .before .pre .0))
+same-length c = let a = c .before .before .before .before .args in ap length (c .before .loop .inv .3) ∙ length-filled 10 (loadedElement quadratic (a .numbers .now)) (loaded-length (a .numbers .now)) (c .before .loop .e) (a .part .now) (omega (arith, c .before .before .before .before .pre .0))
 
 returns : tie.Need-returns Inv-loop μ-loop
 returns c =
     let a = c .before .before .before .before .args in
     let e : c .before .loop .e ≡ a .n = omega arith in
-    (rw e at (c .before .loop .inv .3)) ∙ ap (λ y. blocks (a .n) (laid (a .numbers .now)) ++ y) (drop-of-length-le (a .part .now) {i = a .n * 10} (omega (arith, c .before .before .before .before .pre .0))) ∙ append-nil _
+    (rw e at (c .before .loop .inv .3)) ∙ ap (λ y. blocks (a .n) (loadedElement quadratic (a .numbers .now)) ++ y) (drop-of-length-le (a .part .now) {i = a .n * 10} (omega (arith, c .before .before .before .before .pre .0))) ∙ append-nil _
 
 pub lay-spec : {M : Type 1} → statement M
 lay-spec = tie.close (tie.spec Inv-loop μ-loop loop-holds add-from-end add-to-end mul-lay-element sub-lay-element part-lay-element-start part-lay-element-end mul-lay-element-2 sub-lay-element-2 part-lay-element-start-2 part-lay-element-end-2 lay-element-requires add-e loop-less loop-again same-length returns)

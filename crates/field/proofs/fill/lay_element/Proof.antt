@@ -7,9 +7,8 @@ use native.Mathlib.Nat.{zero-add}
 use lib.ListN.{length, getD, drop, length-set}
 use Rattle.whole.specs.Table.{table}
 use Rattle.whole.proofs.TableLaws.{fill-more, fill-last, table-cong}
-use Rattle.rules.specs.Calls.{loadedValue}
+use Rattle.rules.specs.Calls.{loadedValue, loadedElement}
 use Rattle.rules.specs.Field.{quadratic}
-use Rattle.field.specs.Places.{laid}
 use Rattle.field.proofs.fill.lay_element.Statement.{statement}
 use Rattle.field.proofs.fill.lay_element.Tie as tie
 
@@ -55,7 +54,7 @@ same-length : tie.Need-same-length Inv-loop μ-loop
 same-length c = rw length-set (c .before .loop .inv .1 ∙ sym (c .before .before .pre .0))
 
 returns : tie.Need-returns Inv-loop μ-loop
-unfolding laid loadedValue quadratic
+unfolding loadedElement loadedValue quadratic
 returns c =
     let a = c .before .before .args in
     let e : c .before .loop .k ≡ 9 = omega arith in
