@@ -17,7 +17,7 @@ use Rattle.rules.specs.Calls.{withElement, emitted, withdrawn}
 use Rattle.rules.proofs.LimiterLaws.{weighted-cong, closed-cong, unlevelled-cong}
 use Rattle.field.specs.Places.{Inside, elementStart}
 use Rattle.field.proofs.PlaceLaws.{ten, tracer-is, tracer-room, element-lt, start-is}
-use Rattle.field.proofs.LoadLaws.{part-at}
+use Rattle.whole.proofs.OverwriteLaws.{part-at}
 
 -- two elements with the same numbers
 module _ (p p′ : List ℕ) (e e′ : ℕ) (same : (k : ℕ) → k < 10 → cell quadratic p e k ≡ cell quadratic p′ e′ k) where
@@ -50,7 +50,7 @@ module _ (g : Shape) (s i j : ℕ) (f : List ℕ) (h : Inside g s i j) (room : f
   unfolding cell part quadratic
   lent-same v hv =
       let at : e * elementLength quadratic + v < tracerLength quadratic g = omega (arith, ap (λ n. e * n) ten, tracer-is g, digits-lt {q = e} {m = elements g} {r = v} {c = 10} (element-lt g i j (h .column) (h .row)) hv) in
-      ap (λ n. getD lent n 0) (zero-add v) ∙ part-at 10 start k f v is-ten hv ∙ ap (λ n. getD f n 0) (same-place at)
+      ap (λ n. getD lent n 0) (zero-add v) ∙ part-at 10 start k f v 0 is-ten hv ∙ ap (λ n. getD f n 0) (same-place at)
       ∙ sym (getD-take (tracerLength quadratic g) (drop (s * tracerLength quadratic g) f) (e * elementLength quadratic + v) 0 at ∙ getD-drop (s * tracerLength quadratic g) f (e * elementLength quadratic + v) 0)
     where
       same-place : e * elementLength quadratic + v < tracerLength quadratic g → start + v ≡ s * tracerLength quadratic g + (e * elementLength quadratic + v)

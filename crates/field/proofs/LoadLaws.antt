@@ -6,11 +6,11 @@ use native.Mathlib.Nat.{zero-add}
 use native.Mathlib.Omega.{arith}
 use lib.Dec.{leb, leb→le}
 use lib.IntN.{ℤ, pos}
-use lib.ListN.{length, getD, take, drop, length-take, length-drop}
-use lib.Seq.{getD-take, getD-drop}
+use lib.ListN.{length, getD, take, drop}
 use Rattle.whole.specs.Sum.{all}
 use Rattle.whole.specs.Table.{table}
 use Rattle.whole.proofs.SumLaws.{sum-cong, all-at}
+use Rattle.whole.proofs.OverwriteLaws.{part-at}
 use Rattle.whole.proofs.TableLaws.{length-table, getD-table, table-cong}
 use Rattle.rules.specs.Field.{quadratic, elementLength, cell, weighted, mass}
 use Rattle.rules.specs.Limiter.{closed, closedUnlevelled}
@@ -22,24 +22,17 @@ use Rattle.field.specs.Places.{tenWeights, weighed}
 use Rattle.field.proofs.PlaceLaws.{ten}
 use Rattle.field.proofs.ElementLaws.{node-weight}
 
--- ---- a lent part of a list
-pub part-at : (w s k : ℕ) (l : List ℕ) (i : ℕ) → k ≡ w → i < w → getD (take k (drop s l)) i 0 ≡ getD l (s + i) 0
-part-at w s k l i e h = rw e (getD-take w (drop s l) i 0 h ∙ getD-drop s l i 0)
-
-pub part-size : (w s k : ℕ) (l : List ℕ) → k ≡ w → s + w ≤ length l → length (take k (drop s l)) ≡ w
-part-size w s k l e h = rw (e, length-take, length-drop) (omega arith)
-
 -- ---- the nine numbers of element e of a load
 module _ (l : List ℕ) (e k : ℕ) (nine : k ≡ 9) where
   pub loaded-part : loadedElement quadratic (take k (drop (e * 9) l)) 0 ≡ loadedElement quadratic l e
   unfolding loadedElement loadedValue quadratic
   loaded-part = ap (λ t. t ++ (0 ∷ [])) (table-cong 9 (λ i. getD (take k (drop (e * 9) l)) (0 * 9 + i) 0) (λ i. getD l (e * 9 + i) 0)
-      (λ i h. ap (λ n. getD (take k (drop (e * 9) l)) n 0) (zero-add i) ∙ part-at 9 (e * 9) k l i nine h))
+      (λ i h. ap (λ n. getD (take k (drop (e * 9) l)) n 0) (zero-add i) ∙ part-at 9 (e * 9) k l i 0 nine h))
 
   pub weighed-part : weighed (take k (drop (e * 9) l)) 9 ≡ weighted quadratic (loadedValue quadratic l e)
   unfolding weighed weighted loadedValue quadratic
   weighed-part = sum-cong 9 (λ v. getD tenWeights v 0 * getD (take k (drop (e * 9) l)) v 0) (λ v. quadratic .weight v * getD l (e * 9 + v) 0)
-      (λ v h. λ i. node-weight v h i * part-at 9 (e * 9) k l v nine h i)
+      (λ v h. λ i. node-weight v h i * part-at 9 (e * 9) k l v 0 nine h i)
 
 pub loaded-length : (l : List ℕ) (e : ℕ) → length (loadedElement quadratic l e) ≡ 10
 loaded-length l e = length-loaded-element quadratic l e ∙ ten

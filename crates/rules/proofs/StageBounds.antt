@@ -41,7 +41,7 @@ cond-within true x h = h
 cond-within false x h = within-pos 0
 
 module _ (κ : Kind) (tame : Tame κ) (B : ℕ) where
-  placeWind-within : (cw ce : ℤ) (q : ℕ) → q < κ .side → Within 1024 cw → Within 1024 ce → Within 2048 (placeWind κ cw ce q)
+  pub placeWind-within : (cw ce : ℤ) (q : ℕ) → q < κ .side → Within 1024 cw → Within 1024 ce → Within 2048 (placeWind κ cw ce q)
   unfolding placeWind
   placeWind-within cw ce q l h k = within-le (within-add (within-mul (within-pos (κ .westShare q)) h) (within-mul (within-pos (2 - κ .westShare q)) k)) (omega (arith, tame .share q l))
 

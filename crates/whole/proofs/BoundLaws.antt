@@ -67,6 +67,10 @@ abs-floor (negsuc a) k = omega (arith, div-mono a (suc a) k (le-suc a))
 pub within-floor-any : (z : ℤ) (k n : ℕ) → Within n z → Within (n / k + 1) (floorDiv z k)
 within-floor-any z k n p = record { within = le-trans (abs-floor z k) (omega (arith, div-mono (natAbs z) n k (p .within))) }
 
+-- the same for a divisor that is not a numeral
+pub within-floor-le : (z : ℤ) (k n : ℕ) → Within n z → Within (n + 1) (floorDiv z k)
+within-floor-le z k n p = within-le (within-floor-any z k n p) (omega (arith, div-le-self n k))
+
 abs-quot : (a b : ℤ) → natAbs (quotZ a b) ≤ natAbs a
 abs-quot (pos a) (pos b) = div-le-self a b
 abs-quot (pos a) (negsuc b) = rw (abs-neg (pos (a / suc b))) (div-le-self a (suc b))

@@ -16,6 +16,14 @@ use Rattle.whole.proofs.TableLaws.{length-table}
 pub part-room : (w : ℕ) {s n : ℕ} → s < n → s * w + w ≤ n * w
 part-room w {s} {n} h = omega (arith, mul-le-mul-right w h, suc-mul s w)
 
+-- ---- a lent part of a list
+module _ {ℓ} {A : Type ℓ} (w s k : ℕ) (l : List A) where
+  pub part-at : (i : ℕ) (d : A) → k ≡ w → i < w → getD (take k (drop s l)) i d ≡ getD l (s + i) d
+  part-at i d e h = rw e (getD-take w (drop s l) i d h ∙ getD-drop s l i d)
+
+  pub part-size : k ≡ w → s + w ≤ length l → length (take k (drop s l)) ≡ w
+  part-size e h = rw (e, length-take, length-drop) (omega arith)
+
 module _ {ℓ} {A : Type ℓ} (n : ℕ) (ys xs : List A) (room : n + length ys ≤ length xs) where
   length-front : length (take n xs) ≡ n
   length-front = length-take-le n xs (omega arith)

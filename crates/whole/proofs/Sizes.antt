@@ -16,7 +16,7 @@ use mir.Syntax.{Width, w16, w32, w64}
 use mir.Val.{SFits, Fits, hbits, toZ, ofZ}
 use mir.Facts.{toZ-ofZ, and-yes, toZ-pos}
 use Rattle.whole.specs.Bound.{Within, Are, AllWithin, floorDiv, truncDiv}
-use Rattle.whole.proofs.BoundLaws.{within-le, within-add, within-mul, within-neg, within-pos, within-neg-suc, within-trunc, within-floor-any, within-rem, within-quot, within-mag, within-back, mag-le}
+use Rattle.whole.proofs.BoundLaws.{within-le, within-add, within-mul, within-neg, within-pos, within-neg-suc, within-trunc, within-floor-any, within-floor-le, within-rem, within-quot, within-mag, within-back, mag-le}
 
 pub record Sized (z : ℤ) : Type 0 where
   pub size : ℕ
@@ -38,6 +38,10 @@ within {n} p t = within-le (p .small) (leb→le (p .size) n t)
 -- a number that fits, written and read back
 pub back-is : {n : ℕ} (w : Width) (z : ℤ) → Within n z → T (ltb n (2 ^ hbits w)) → toZ w (ofZ w z) ≡ z
 back-is {n} w z p t = toZ-ofZ (fits (record { size = n; small = p }) t)
+
+-- what a call gave, written and read back
+pub read-back : {n : ℕ} {r z : ℤ} (w : Width) → Are n r z → T (ltb n (2 ^ hbits w)) → toZ w (ofZ w r) ≡ z
+read-back {n} {r} w p t = back-is w r (subst (λ (x : ℤ). Within n x) (sym (p .same)) (p .bound)) t ∙ p .same
 
 pub exact : {r z : ℤ} (p : Exact r z) → T (p .good) → r ≡ z
 exact p t = p .same t
@@ -153,6 +157,10 @@ e-trunc r a k p = record { size = p .size / k; small = within-trunc r k (p .size
 abbrev pub e-floor : (r a : ℤ) (k : ℕ) → Exact r a → Exact (floorDiv r k) (floorDiv a k)
 e-floor r a k p = record { size = p .size / k + 1; small = within-floor-any r k (p .size) (p .small); good = p .good; same = λ t. ap (λ (x : ℤ). floorDiv x k) (p .same t) }
 
+-- a floor by a divisor that is not a numeral
+abbrev pub e-shift : (r a : ℤ) (k : ℕ) → Exact r a → Exact (floorDiv r k) (floorDiv a k)
+e-shift r a k p = record { size = p .size + 1; small = within-floor-le r k (p .size) (p .small); good = p .good; same = λ t. ap (λ (x : ℤ). floorDiv x k) (p .same t) }
+
 abbrev pub e-quot : (r s a b : ℤ) → Exact r a → Exact s b → Exact (quotZ r s) (quotZ a b)
 e-quot r s a b p q = record { size = p .size; small = within-quot r s (p .small); good = p .good && q .good; same = λ t. both-same quotZ p q t }
 
@@ -229,6 +237,8 @@ t-le r s a b p q = record { goodt = p .good && q .good; samet = λ t. both-same 
 pub ruleset sizes = (s-leaf, s-pos, s-neg-suc, s-table, s-at, s-call, s-add, s-mul, s-neg, s-trunc, s-floor, s-back)
 
 pub ruleset exacts = (e-leaf, e-pos, e-neg-suc, e-table, e-at, e-call, e-back, e-add, e-mul, e-neg, e-trunc, e-floor)
+
+pub ruleset exacts-shift = (e-leaf, e-pos, e-neg-suc, e-table, e-at, e-call, e-back, e-add, e-mul, e-neg, e-shift)
 
 pub ruleset sizes-wide = (sizes, s-i16, s-i32, s-u32, s-quot, s-rem)
 

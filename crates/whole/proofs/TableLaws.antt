@@ -1,12 +1,12 @@
 -- Laws of tables: their length, a number of theirs, and one more entry.
 use mathlib.Core.Path.{_≡_, refl, sym, ap, subst, _∙_}
-use mathlib.Core.List.{List, [], _∷_, _++_, append-assoc}
-use Prim.Native.Nat.{ℕ, zero, suc, _+_, _*_, _≤_, _<_}
-use native.Mathlib.Nat.{add-zero, mul-one, suc-mul}
+use mathlib.Core.List.{List, [], _∷_, _++_, append-assoc, append-nil}
+use Prim.Native.Nat.{ℕ, zero, suc, _+_, _*_, _/_, _%_, _≤_, _<_}
+use native.Mathlib.Nat.{add-zero, add-suc, mul-one, suc-mul, zero-mul}
 use native.Mathlib.Decide.{ℕ-discrete, decLt}
 use native.Mathlib.Numerals.{add-one}
 use native.Mathlib.Omega.{arith}
-use lib.Arith.{digits-lt}
+use lib.Arith.{digits-lt, digits-div, digits-mod}
 use lib.ListN.{length, getD, set, take, drop, length-drop, drop-of-length-le, length-append, List·getD-append, List·getD-eq-default}
 use lib.Seq.{getD-append-add, drop-cons, set-at, take-at, drop-at, drop-drop}
 use Rattle.whole.specs.Table.{blocks, table}
@@ -65,10 +65,27 @@ module _ {ℓ} {A : Type ℓ} where
       go (yes h) = subst P (sym (getD-table n f i d h)) (all′ i h)
       go (no h) = subst P (sym (List·getD-eq-default (table n f) d (omega (arith, length-table n f)))) none
 
+  -- blocks of equal width, each a table, are one table
+  pub blocks-table : (w : ℕ) (f : ℕ → ℕ → A) → 0 < w → (n : ℕ) → blocks n (λ e. table w (f e)) ≡ table (n * w) (λ i. f (i / w) (i % w))
+  unfolding blocks table
+  blocks-table w f h zero = sym (ap (λ k. table k (λ i. f (i / w) (i % w))) (zero-mul w))
+  blocks-table w f h (suc n) = ap (λ l. l ++ table w (f n)) (blocks-table w f h n) ∙ joined w (λ r l. l) ∙ sym (ap (λ k. table k (λ i. f (i / w) (i % w))) (suc-mul n w))
+    where
+      joined : (m : ℕ) → ((r : ℕ) → r < m → r < w) → table (n * w) (λ i. f (i / w) (i % w)) ++ table m (f n) ≡ table (n * w + m) (λ i. f (i / w) (i % w))
+      joined zero k = append-nil _ ∙ sym (ap (λ k. table k (λ i. f (i / w) (i % w))) (add-zero (n * w)))
+      joined (suc m) k =
+          let r : m < w = k m (omega arith) in
+          sym (append-assoc (table (n * w) (λ i. f (i / w) (i % w))) (table m (f n)) (f n m ∷ [])) ∙ (λ i. joined m (λ r l. k r (omega arith)) i ++ (f (sym (digits-div n r) i) (sym (digits-mod n r) i) ∷ []))
+          ∙ sym (ap (λ k. table k (λ i. f (i / w) (i % w))) (add-suc (n * w) m))
+
   -- ---- a loop that fills a list from the front: the first n entries are the table's, the others as they were
   pub fill-more : (n : ℕ) (f : ℕ → A) (l : List A) → n < length l → set (table n f ++ drop n l) n (f n) ≡ table (n + 1) f ++ drop (n + 1) l
   fill-more n f l h = ap (λ x. set (table n f ++ x) n (f n)) (drop-cons l n (f n) h) ∙ set-at (table n f) (getD l n (f n)) (drop (suc n) l) (f n) n (length-table n f)
       ∙ sym (rw (table-more n f, add-one n) (append-assoc (table n f) (f n ∷ []) (drop (suc n) l)))
+
+  -- the same for a list p that is so filled, and a value x that is the table's
+  pub fill-next : (n : ℕ) (f : ℕ → A) (l p : List A) (x : A) → p ≡ table n f ++ drop n l → n < length l → x ≡ f n → set p n x ≡ table (n + 1) f ++ drop (n + 1) l
+  fill-next n f l p x e h q = (λ i. set (e i) n (q i)) ∙ fill-more n f l h
 
   -- and the last entry of the list is set
   pub fill-last : (n : ℕ) (f : ℕ → A) (l : List A) (x : A) → length l ≡ n + 1 → set (table n f ++ drop n l) n x ≡ table n f ++ (x ∷ [])

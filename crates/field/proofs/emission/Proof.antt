@@ -11,7 +11,7 @@ use Rattle.rules.specs.Field.{quadratic, onGrid, element, mass, part}
 use Rattle.rules.specs.Calls.{totalReading, emitted}
 use Rattle.field.specs.Places.{Inside, elementStart}
 use Rattle.field.proofs.PlaceLaws.{element-ends}
-use Rattle.field.proofs.LoadLaws.{part-size}
+use Rattle.whole.proofs.OverwriteLaws.{part-size}
 use Rattle.rules.specs.Calls.{emission, done}
 use Rattle.rules.proofs.CallLaws.{length-emitted}
 use Rattle.rules.proofs.PartLaws.{mass-le-total}

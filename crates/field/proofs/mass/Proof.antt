@@ -11,7 +11,7 @@ use Rattle.rules.specs.Field.{quadratic, onGrid, mass}
 use Rattle.rules.specs.Calls.{totalReading}
 use Rattle.field.specs.Places.{Inside, elementStart}
 use Rattle.field.proofs.PlaceLaws.{element-ends}
-use Rattle.field.proofs.LoadLaws.{part-size}
+use Rattle.whole.proofs.OverwriteLaws.{part-size}
 use Rattle.field.proofs.CheckLaws.{found, inside, mass-refused, mass-off-grid, mass-found}
 use Rattle.field.proofs.InPlaceLaws.{mass-lent}
 use Rattle.field.proofs.mass.Statement.{statement}

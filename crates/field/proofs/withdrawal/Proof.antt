@@ -10,7 +10,7 @@ use Rattle.rules.specs.Calls.{withdrawal, done, massReading, withdrawn}
 use Rattle.rules.proofs.CallLaws.{length-withdrawn}
 use Rattle.field.specs.Places.{elementStart}
 use Rattle.field.proofs.PlaceLaws.{element-ends}
-use Rattle.field.proofs.LoadLaws.{part-size}
+use Rattle.whole.proofs.OverwriteLaws.{part-size}
 use Rattle.field.proofs.CheckLaws.{Held, held, call-refused, call-accepted, withdrawal-refused, withdrawal-over, withdrawal-accepted}
 use Rattle.field.proofs.InPlaceLaws.{mass-lent, withdrawn-lent, back-in-place}
 use Rattle.field.proofs.withdrawal.Statement.{statement}

@@ -9,7 +9,8 @@ use Rattle.whole.specs.Table.{blocks}
 use Rattle.whole.proofs.TableLaws.{fill-block, length-filled}
 use Rattle.rules.specs.Field.{quadratic}
 use Rattle.rules.specs.Calls.{loadedElement}
-use Rattle.field.proofs.LoadLaws.{part-size, loaded-part, loaded-length}
+use Rattle.whole.proofs.OverwriteLaws.{part-size}
+use Rattle.field.proofs.LoadLaws.{loaded-part, loaded-length}
 use Rattle.field.proofs.fill.lay.Statement.{statement}
 use Rattle.field.proofs.fill.lay.Tie as tie
 

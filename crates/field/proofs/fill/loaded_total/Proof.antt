@@ -7,7 +7,8 @@ use Rattle.whole.specs.Sum.{sum}
 use Rattle.whole.proofs.SumLaws.{sum-more}
 use Rattle.rules.specs.Field.{quadratic, weighted}
 use Rattle.rules.specs.Calls.{loadedValue}
-use Rattle.field.proofs.LoadLaws.{weighed-part, part-size}
+use Rattle.whole.proofs.OverwriteLaws.{part-size}
+use Rattle.field.proofs.LoadLaws.{weighed-part}
 use Rattle.field.proofs.fill.loaded_total.Statement.{statement}
 use Rattle.field.proofs.fill.loaded_total.Tie as tie
 

@@ -1,0 +1,29 @@
+use native.Mathlib.Omega.{arith}
+use borrow.Author.Needs.{needs}
+use Rattle.grid.proofs.Laws.{elements-le, north-next, north-last}
+use Rattle.grid.proofs.north.Statement.{statement}
+use Rattle.grid.proofs.north.Tie as tie
+
+mul-n : tie.Need-mul-n
+mul-n c = record { fits = omega (arith, elements-le (c .before .args .shape) (c .before .pre .fine)) }
+
+add-if1 : tie.Need-add-if1
+add-if1 c = let b = c .before in record { fits = omega (arith, b .pre .inside, elements-le (b .args .shape) (b .pre .fine), b .pre .fine .nx-small) }
+
+add-result : tie.Need-add-result
+add-result c = let b = c .before .before in record { fits = omega (arith, b .pre .inside, elements-le (b .args .shape) (b .pre .fine), b .pre .fine .nx-small) }
+
+add-result-2 : tie.Need-add-result-2
+add-result-2 c = let b = c .before .before in record { fits = omega (arith, b .pre .inside, elements-le (b .args .shape) (b .pre .fine), b .pre .fine .nx-small) }
+
+sub-result : tie.Need-sub-result
+sub-result c = search needs
+
+returns : tie.Need-returns
+returns c = let b = c .before .before in north-next (b .args .shape) (b .args .e) (b .pre) (c .if1 .taken)
+
+returns-2 : tie.Need-returns-2
+returns-2 c = let b = c .before .before in north-last (b .args .shape) (b .args .e) (b .pre) (c .if1 .left)
+
+pub north-spec : {M : Type 1} → statement M
+north-spec = tie.close (tie.spec mul-n add-if1 add-result add-result-2 sub-result returns returns-2)

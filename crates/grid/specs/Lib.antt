@@ -1,0 +1,2 @@
+-- What the grid's leaves ask.
+pub mod Place

@@ -1,0 +1,2 @@
+-- What the tendency's leaves answer.
+pub mod Line
