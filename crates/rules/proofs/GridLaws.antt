@@ -110,30 +110,30 @@ module _ (g : Shape) (hx : 0 < g .nx) (hy : 0 < g .ny) where
 
 -- ---- the ends of east and of north faces
 module _ (g : Shape) where
-  below : (f : ℕ) → f < elements g → T (looksEast g f)
-  below f h = lt→ltb f (elements g) h
+  pub looks-east : (f : ℕ) → f < elements g → T (looksEast g f)
+  looks-east f h = lt→ltb f (elements g) h
 
-  above : (e : ℕ) → T (not (looksEast g (northFace g e)))
-  above e = not-T (looksEast g (northFace g e)) (λ t. let h : northFace g e < elements g = ltb→lt _ _ t in omega arith)
+  pub looks-north : (e : ℕ) → T (not (looksEast g (northFace g e)))
+  looks-north e = not-T (looksEast g (northFace g e)) (λ t. let h : northFace g e < elements g = ltb→lt _ _ t in omega arith)
 
   from-north : (e : ℕ) → northFace g e - elements g ≡ e
   from-north e = omega arith
 
   pub behind-east : (f : ℕ) → f < elements g → behind g f ≡ f
   unfolding behind
-  behind-east f h = cond-yes (looksEast g f) f (f - elements g) (below f h)
+  behind-east f h = cond-yes (looksEast g f) f (f - elements g) (looks-east f h)
 
   pub ahead-east : (f : ℕ) → f < elements g → ahead g f ≡ east g f
   unfolding ahead
-  ahead-east f h = cond-yes (looksEast g f) (east g f) (north g (f - elements g)) (below f h)
+  ahead-east f h = cond-yes (looksEast g f) (east g f) (north g (f - elements g)) (looks-east f h)
 
   pub behind-north : (e : ℕ) → e < elements g → behind g (northFace g e) ≡ e
   unfolding behind
-  behind-north e _ = cond-no (looksEast g (northFace g e)) (northFace g e) (northFace g e - elements g) (above e) ∙ from-north e
+  behind-north e _ = cond-no (looksEast g (northFace g e)) (northFace g e) (northFace g e - elements g) (looks-north e) ∙ from-north e
 
   pub ahead-north : (e : ℕ) → e < elements g → ahead g (northFace g e) ≡ north g e
   unfolding ahead
-  ahead-north e _ = cond-no (looksEast g (northFace g e)) (east g (northFace g e)) (north g (northFace g e - elements g)) (above e) ∙ ap (north g) (from-north e)
+  ahead-north e _ = cond-no (looksEast g (northFace g e)) (east g (northFace g e)) (north g (northFace g e - elements g)) (looks-north e) ∙ ap (north g) (from-north e)
 
 module _ (g : Shape) (hx : 0 < g .nx) (hy : 0 < g .ny) where
   pub behind-lt : (f : ℕ) → f < faces g → behind g f < elements g

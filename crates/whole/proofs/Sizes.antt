@@ -187,6 +187,10 @@ e-own w z h = record { size = 2 ^ hbits w; small = within-back w z (within-mag z
 abbrev pub e-i16 : (z : ℤ) → mag z < 2 ^ 15 → Exact (toZ w16 (ofZ w16 z)) z
 e-i16 z h = e-own w16 z h
 
+-- an i16 as an i64
+pub widened : (z : ℤ) → mag z < 2 ^ 15 → toZ w64 (ofZ w64 (toZ w16 (ofZ w16 z))) ≡ z
+widened z h = toZ-ofZ (fits {w = w64} {z = toZ w16 (ofZ w16 z)} (record { size = 2 ^ 15; small = within-back w16 z (within-mag z (2 ^ 15) h) }) tt) ∙ toZ-ofZ {w = w16} (record { sfits = h })
+
 abbrev pub e-i32 : (z : ℤ) → mag z < 2 ^ 31 → Exact (toZ w32 (ofZ w32 z)) z
 e-i32 z h = e-own w32 z h
 

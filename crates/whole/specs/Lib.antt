@@ -3,3 +3,4 @@ pub mod Parts
 pub mod Sum
 pub mod Table
 pub mod Bound
+pub mod Written

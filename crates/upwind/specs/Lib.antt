@@ -1,0 +1,2 @@
+-- What the upwind leaves ask and answer.
+pub mod Upwind

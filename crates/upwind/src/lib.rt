@@ -1,0 +1,108 @@
+// Upwind values, and the tendencies of one element of the grid. A stage is lent as nine numbers an element.
+// Every function here is a leaf: the element is on the grid, the stage has its numbers, and winds and values are in their ranges.
+ghost use mathlib.Core.Path.{_≡_};
+ghost use mathlib.Core.Bool.{cond};
+ghost use Prim.Native.Nat.{_+_, _*_, _≤_, _<_};
+ghost use lib.ListN.{length, getD};
+ghost use lib.IntN.{pos};
+ghost use Rattle.whole.specs.Bound.{AllWithin};
+ghost use Rattle.whole.specs.Table.{table};
+ghost use Rattle.rules.specs.Field.{quadratic, elements, faces};
+ghost use Rattle.rules.specs.Stages.{tendency};
+ghost use Rattle.rules.specs.Calls.{windAt};
+ghost use Rattle.grid.specs.Place.{Placed};
+ghost use Rattle.upwind.specs.Upwind.{at, asStage, Calm, sideWinds, upwindStart, sideStart, upwindPlace, Reached};
+use rules::Shape;
+
+// Where an upwind line begins in the element behind an east or a north face, and how it goes on: the lines of the west, the east,
+// the south and the north side.
+const LAST: [usize; 4] = [2, 2, 6, 6];
+
+const STRIDES: [usize; 4] = [3, 3, 1, 1];
+
+// The winds of an element's west, east, south and north face.
+fn side_winds(wind: &[i16], shape: Shape, e: usize) -> [i64; 4]
+    requires { ⌜ Placed shape e ⌝ }
+    requires { ⌜ Calm shape (now wind) ⌝ }
+    ensures { λ r. ⌜ r ≡ sideWinds shape (windAt (now (wind .entry))) e ⌝ }
+{
+    let n = shape.nx * shape.ny;
+    let west = grid::west(shape, e);
+    let south = n + grid::south(shape, e);
+    let north = n + e;
+    [
+        wind[west] as i64,
+        wind[e] as i64,
+        wind[south] as i64,
+        wind[north] as i64,
+    ]
+}
+
+// Where the upwind values of a face begin in a stage: in the element behind it where the wind is not negative, else in the one ahead.
+pub fn upwind_start(c: i64, behind: usize, ahead: usize, last: usize) -> usize
+    requires { ⌜ behind < 4096 ⌝ }
+    requires { ⌜ ahead < 4096 ⌝ }
+    requires { ⌜ last < 9 ⌝ }
+    ensures { λ r. ⌜ r ≡ upwindStart c behind ahead last ⌝ }
+{
+    if c >= 0 { behind * 9 + last } else { ahead * 9 }
+}
+
+// The same for an element's four sides.
+fn starts(c: [i64; 4], shape: Shape, e: usize) -> [usize; 4]
+    requires { ⌜ Placed shape e ⌝ }
+    ensures { λ r. ⌜ r ≡ table 4 (sideStart shape c e) ⌝ }
+{
+    let west = grid::west(shape, e);
+    let east = grid::east(shape, e);
+    let south = grid::south(shape, e);
+    let north = grid::north(shape, e);
+    let behind = [west, e, south, e];
+    let ahead = [e, east, e, north];
+    let mut s = [0usize; 4];
+    for side in 0..4 {
+        s[side] = upwind_start(c[side], behind[side], ahead[side], LAST[side]);
+    }
+    s
+}
+
+// The upwind values of the four sides, three of each.
+fn upwind_values(phi: &[i64], starts: [usize; 4]) -> [i64; 12]
+    requires { ⌜ Reached starts (now phi) ⌝ }
+    ensures { λ r. ⌜ r ≡ table 12 (λ m. at (now (phi .entry)) (upwindPlace starts m)) ⌝ }
+{
+    let mut u = [0i64; 12];
+    for m in 0..12 {
+        let side = m / 3;
+        let place = starts[side] + STRIDES[side] * (m % 3);
+        u[m] = phi[place];
+    }
+    u
+}
+
+// An element's nine values.
+fn values(phi: &[i64], start: usize) -> [i64; 9]
+    requires { ⌜ start + 9 ≤ length (now phi) ⌝ }
+    ensures { λ r. ⌜ r ≡ table 9 (λ k. at (now (phi .entry)) (start + k)) ⌝ }
+{
+    let mut v = [0i64; 9];
+    for k in 0..9 {
+        v[k] = phi[start + k];
+    }
+    v
+}
+
+// The tendencies of element e of a stage.
+pub fn tendencies(phi: &[i64], wind: &[i16], shape: Shape, e: usize) -> [i64; 9]
+    requires { ⌜ Placed shape e ⌝ }
+    requires { ⌜ length (now phi) ≡ elements shape * 9 ⌝ }
+    requires { ⌜ AllWithin 1700000000 (now phi) ⌝ }
+    requires { ⌜ Calm shape (now wind) ⌝ }
+    ensures { λ r. ⌜ r ≡ table 9 (tendency quadratic shape (windAt (now (wind .entry))) (asStage (now (phi .entry))) e) ⌝ }
+{
+    let c = side_winds(wind, shape, e);
+    let s = starts(c, shape, e);
+    let u = upwind_values(phi, s);
+    let v = values(phi, e * 9);
+    tendency::tendencies(v, c, u)
+}

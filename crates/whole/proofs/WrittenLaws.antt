@@ -1,0 +1,68 @@
+-- Two stretches of a list, written one place or one block after the other.
+use mathlib.Core.Path.{_≡_, refl, sym, ap, _∙_}
+use mathlib.Core.List.{List}
+use mathlib.Core.Logic.{_≢_}
+use Prim.Native.Nat.{ℕ, _+_, _*_, _-_, _≤_, _<_}
+use native.Mathlib.Decide.{decLt}
+use native.Mathlib.Omega.{arith}
+use lib.IntN.{ℤ, pos}
+use lib.ListN.{length, getD, set, take, drop, length-set}
+use lib.Seq.{getD-set-same, getD-set-other, ext-getD}
+use Rattle.whole.proofs.OverwriteLaws.{part-at, part-size}
+use Rattle.whole.specs.Written.{Apart, Written}
+
+pub written-none : (a b : ℕ) (f h : ℕ → ℤ) (l : List ℤ) → Written a b 0 f h l l
+written-none a b f h l = record {
+  long = refl;
+  first = λ i q. let z : ⊥ = omega arith in absurd z;
+  second = λ i q. let z : ⊥ = omega arith in absurd z;
+  kept = λ i p q. refl;
+}
+
+-- place i is one of the first n, or one of the m more
+place : (P : Type 0) (n m i : ℕ) → (i < n → P) → (i - n < m → n + (i - n) ≡ i → P) → i < n + m → P
+place P n m i yes′ no′ l = go (decLt i n)
+  where
+    go : Dec (i < n) → P
+    go (yes k) = yes′ k
+    go (no k) = no′ (omega arith) (omega arith)
+
+-- m more places in each stretch, the first before the second
+pub written-block : {a b n : ℕ} {old mid new : List ℤ} (f h : ℕ → ℤ) (m : ℕ) (f′ h′ : ℕ → ℤ) → a + (n + m) ≤ b → Written a b n f h old mid → Written (a + n) (b + n) m f′ h′ mid new
+    → ((k : ℕ) → k < m → f′ k ≡ f (n + k)) → ((k : ℕ) → k < m → h′ k ≡ h (n + k)) → Written a b (n + m) f h old new
+written-block {a} {b} {n} {old} {mid} {new} f h m f′ h′ room p q ef eh = record {
+  long = q .long ∙ p .long;
+  first = λ i l. place (getD new (a + i) (pos 0) ≡ f i) n m i
+      (λ k. q .kept (a + i) (λ x y. omega arith) (λ x y. omega arith) ∙ p .first i k)
+      (λ k e. at (a + i) (a + n + (i - n)) (omega arith) ∙ q .first (i - n) k ∙ ef (i - n) k ∙ ap f e) l;
+  second = λ i l. place (getD new (b + i) (pos 0) ≡ h i) n m i
+      (λ k. q .kept (b + i) (λ x y. omega arith) (λ x y. omega arith) ∙ p .second i k)
+      (λ k e. at (b + i) (b + n + (i - n)) (omega arith) ∙ q .second (i - n) k ∙ eh (i - n) k ∙ ap h e) l;
+  kept = λ i x y. q .kept i (λ u v. x (omega arith) (omega arith)) (λ u v. y (omega arith) (omega arith)) ∙ p .kept i (λ u v. x u (omega arith)) (λ u v. y u (omega arith));
+}
+  where
+    at : (i j : ℕ) → i ≡ j → getD new i (pos 0) ≡ getD new j (pos 0)
+    at i j e = ap (λ k. getD new k (pos 0)) e
+
+-- one more place in each stretch: the second is set, then the first
+written-one : (a b : ℕ) (x y : ℤ) (l : List ℤ) → a < b → b < length l → Written a b 1 (λ _. x) (λ _. y) l (set (set l b y) a x)
+written-one a b x y l lt room = record {
+  long = length-set (set l b y) a x ∙ length-set l b y;
+  first = λ i q. ap (λ k. getD (set (set l b y) a x) k (pos 0)) (omega arith) ∙ getD-set-same (set l b y) a x (pos 0) (omega (arith, length-set l b y));
+  second = λ i q. ap (λ k. getD (set (set l b y) a x) k (pos 0)) (omega arith) ∙ getD-set-other (set l b y) a b x (pos 0) (λ e. omega arith) ∙ getD-set-same l b y (pos 0) room;
+  kept = λ i p q. getD-set-other (set l b y) a i x (pos 0) (λ e. p (omega arith) (omega arith)) ∙ getD-set-other l b i y (pos 0) (λ e. q (omega arith) (omega arith));
+}
+
+pub written-next : {a b n : ℕ} {old mid : List ℤ} (f h : ℕ → ℤ) (x y : ℤ) → a + (n + 1) ≤ b → b + n < length old → Written a b n f h old mid → y ≡ h n → x ≡ f n
+    → Written a b (n + 1) f h old (set (set mid (b + n) y) (a + n) x)
+written-next {a} {b} {n} {old} {mid} f h x y room long p ey ex = written-block f h 1 (λ _. x) (λ _. y) room p
+    (written-one (a + n) (b + n) x y mid (omega arith) (omega (arith, p .long)))
+    (λ k l. ex ∙ ap f (omega arith)) (λ k l. ey ∙ ap h (omega arith))
+
+-- a part of the list that is apart from both stretches
+pub part-kept : {a b n : ℕ} {f h : ℕ → ℤ} {old new : List ℤ} (s w k : ℕ) → Written a b n f h old new → k ≡ w → s + w ≤ length old
+    → ((i : ℕ) → s ≤ i → i < s + w → Apart a n i) → ((i : ℕ) → s ≤ i → i < s + w → Apart b n i) → take k (drop s new) ≡ take w (drop s old)
+part-kept {old = old} {new = new} s w k p e room apart apart′ = ext-getD (pos 0) (take k (drop s new)) (take w (drop s old))
+    (part-size w s k new e (omega (arith, p .long)) ∙ sym (part-size w s w old refl room))
+    (λ i l. let h : i < w = omega (arith, part-size w s k new e (omega (arith, p .long))) in
+    part-at w s k new i (pos 0) e h ∙ p .kept (s + i) (apart (s + i) (omega arith) (omega arith)) (apart′ (s + i) (omega arith) (omega arith)) ∙ sym (part-at w s w old i (pos 0) refl h))
