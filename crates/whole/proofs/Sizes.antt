@@ -49,6 +49,10 @@ exact p t = p .same t
 pub are-eq : {n : ℕ} {r z z′ : ℤ} → Are n r z → z ≡ z′ → Are n r z′
 are-eq {n} p e = record { same = p .same ∙ e; bound = subst (λ (x : ℤ). Within n x) e (p .bound) }
 
+-- what a call gave of a number that the machine reads back
+pub are-at : {n : ℕ} {r z : ℤ} (f : ℤ → ℤ) (z′ : ℤ) → Are n r (f z) → (p : Exact z z′) → T (p .good) → Are n r (f z′)
+are-at f z′ h p t = are-eq h (ap f (p .same t))
+
 pub bounded : {n : ℕ} {r z z′ : ℤ} (p : Exact r z) → T (p .good) → T (leb (p .size) n) → z ≡ z′ → Are n r z′
 bounded {n} p g t e = are-eq (record { same = p .same g; bound = subst (λ (x : ℤ). Within n x) (p .same g) (within-le (p .small) (leb→le (p .size) n t)) }) e
 

@@ -1,5 +1,5 @@
 -- Two stretches of a list, written one place or one block after the other.
-use mathlib.Core.Path.{_≡_, refl, sym, ap, _∙_}
+use mathlib.Core.Path.{_≡_, refl, sym, ap, subst, _∙_}
 use mathlib.Core.List.{List}
 use mathlib.Core.Logic.{_≢_}
 use Prim.Native.Nat.{ℕ, _+_, _*_, _-_, _≤_, _<_}
@@ -58,6 +58,17 @@ pub written-next : {a b n : ℕ} {old mid : List ℤ} (f h : ℕ → ℤ) (x y :
 written-next {a} {b} {n} {old} {mid} f h x y room long p ey ex = written-block f h 1 (λ _. x) (λ _. y) room p
     (written-one (a + n) (b + n) x y mid (omega arith) (omega (arith, p .long)))
     (λ k l. ex ∙ ap f (omega arith)) (λ k l. ey ∙ ap h (omega arith))
+
+-- where the starts and the number are only equal
+pub written-moved : {a b n : ℕ} {f h : ℕ → ℤ} {old new : List ℤ} (a′ b′ n′ : ℕ) → a ≡ a′ → b ≡ b′ → n ≡ n′ → Written a b n f h old new → Written a′ b′ n′ f h old new
+written-moved {a} {b} {n} {f} {h} {old} {new} a′ b′ n′ ea eb en w =
+    subst (λ x. Written x b′ n′ f h old new) ea (subst (λ x. Written a x n′ f h old new) eb (subst (λ x. Written a b x f h old new) en w))
+
+-- a turn of a loop that writes m more places from a₁ and from b₁ on
+pub written-turn : {a b n a₁ b₁ : ℕ} {old mid new : List ℤ} (f h : ℕ → ℤ) (m : ℕ) (f′ h′ : ℕ → ℤ) (n₁ : ℕ) → a₁ ≡ a + n → b₁ ≡ b + n → n + m ≡ n₁ → a + n₁ ≤ b
+    → Written a b n f h old mid → Written a₁ b₁ m f′ h′ mid new → ((k : ℕ) → k < m → f′ k ≡ f (n + k)) → ((k : ℕ) → k < m → h′ k ≡ h (n + k)) → Written a b n₁ f h old new
+written-turn {a} {b} {n} f h m f′ h′ n₁ ea eb en room p q ef eh =
+    written-moved a b n₁ refl refl en (written-block f h m f′ h′ (omega arith) p (written-moved (a + n) (b + n) m ea eb refl q) ef eh)
 
 -- a part of the list that is apart from both stretches
 pub part-kept : {a b n : ℕ} {f h : ℕ → ℤ} {old new : List ℤ} (s w k : ℕ) → Written a b n f h old new → k ≡ w → s + w ≤ length old

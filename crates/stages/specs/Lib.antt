@@ -1,0 +1,2 @@
+-- What the stages' leaves ask and answer.
+pub mod Advance
