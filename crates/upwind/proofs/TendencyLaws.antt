@@ -20,7 +20,7 @@ use Rattle.rules.specs.Field.{quadratic, elements, faces, northFace}
 use Rattle.rules.specs.Grid.{west, east, south, north, looksEast, behind, ahead}
 use Rattle.rules.specs.Stages.{node, upwind, placeWind, advection, alongX, alongY, tendency}
 use Rattle.rules.specs.Calls.{windAt}
-use Rattle.rules.proofs.GridLaws.{west-lt, south-lt, east-west, north-south, looks-east, looks-north, behind-east, ahead-east, behind-north, ahead-north}
+use Rattle.rules.proofs.GridLaws.{west-lt, south-lt, east-west, north-south, looks-east, looks-north, behind-lt, ahead-lt, behind-east, ahead-east, behind-north, ahead-north}
 use Rattle.grid.specs.Place.{Fine, Placed}
 use Rattle.tendency.specs.Line.{localTendency}
 use Rattle.upwind.specs.Upwind.{at, asStage, Calm, sideWinds, behinds, aheads, lasts, strides, upwindStart, sideStart, upwindPlace, Reached}
@@ -75,6 +75,27 @@ module _ (g : Shape) (c : ℕ → ℤ) (φ : ℕ → ℕ → ℤ) (e : ℕ) wher
       λ i. floorDiv (pos (ω b) *ℤ advection quadratic (λ q. φ e (node quadratic q b)) (c (west g e)) (c e) (side-at 0 b b hb (omega arith) i) (side-at 1 b (3 + b) hb (omega arith) i) a
       +ℤ pos (ω a) *ℤ advection quadratic (λ q. φ e (node quadratic a q)) (c (northFace g (south g e))) (c (northFace g e)) (side-at 2 a (6 + a) ha (omega arith) i) (side-at 3 a (9 + a) ha (omega arith) i) b)
       (8192 * (ω a * ω b))
+
+-- ---- stages that agree on the grid have the same upwind values and tendencies
+module _ (g : Shape) (h : Fine g) (c : ℕ → ℤ) (φ φ′ : ℕ → ℕ → ℤ) (same : (e k : ℕ) → e < elements g → k < 9 → φ e k ≡ φ′ e k) where
+  line-lt : (b : Bool) (r : ℕ) → r < 3 → (cond b (node quadratic 2 r) (node quadratic r 2) < 9) × (cond b (node quadratic 0 r) (node quadratic r 0) < 9)
+  line-lt true r l = (node-lt 2 r (omega arith) l, node-lt 0 r (omega arith) l)
+  line-lt false r l = (node-lt r 2 l (omega arith), node-lt r 0 l (omega arith))
+
+  pub upwind-cong : (f r : ℕ) → f < faces g → r < 3 → upwind quadratic g c φ f r ≡ upwind quadratic g c φ′ f r
+  unfolding upwind quadratic
+  upwind-cong f r l lr =
+      let n = line-lt (looksEast g f) r lr in
+      ap₂ (cond (nonNeg (c f))) (same (behind g f) _ (behind-lt g (h .nx-above) (h .ny-above) f l) (n .0)) (same (ahead g f) _ (ahead-lt g (h .nx-above) (h .ny-above) f l) (n .1))
+
+  pub tendency-cong : (e k : ℕ) → e < elements g → k < 9 → tendency quadratic g c φ e k ≡ tendency quadratic g c φ′ e k
+  tendency-cong e k le lk = tendency-local g c φ e k lk
+      ∙ local-cong (φ e) (φ′ e) (at (sideWinds g c e)) (sideValue g c φ e) (sideValue g c φ′ e) k lk (λ i l. same e i le l) (λ m l. upwind-cong _ (m % 3) (faces-lt (m / 3) (omega arith)) (omega arith))
+      ∙ sym (tendency-local g c φ′ e k lk)
+    where
+      faces-lt : (s : ℕ) → s < 4 → getD (sideFaces g c φ e) s 0 < faces g
+      faces-lt = four (λ s. getD (sideFaces g c φ e) s 0 < faces g)
+          (omega (arith, west-lt g (h .nx-above) (h .ny-above) e le)) (omega arith) (omega (arith, south-lt g (h .nx-above) (h .ny-above) e le)) (omega arith)
 
 -- ---- a stage that is a list
 pick : (l : List ℤ) (b : Bool) (x y x′ y′ d : ℕ) → x ≡ x′ + d → y ≡ y′ + d → cond b (at l x) (at l y) ≡ at l (cond b x′ y′ + d)
