@@ -1,0 +1,2 @@
+-- What the fluxes' leaves ask and answer.
+pub mod Face
