@@ -1,7 +1,7 @@
 -- Work holds document 01's stages: section m is stage m after m passes, and stage 3 is ψ.
 use mathlib.Core.Path.{_≡_, refl, sym, ap, ap₂, subst, _∙_}
 use mathlib.Core.List.{List}
-use Prim.Native.Nat.{ℕ, zero, suc, _+_, _*_, _/_, _%_, _≤_, _<_}
+use Prim.Native.Nat.{ℕ, zero, suc, _+_, _*_, _-_, _/_, _%_, _≤_, _<_}
 use native.Mathlib.Nat.{one-mul, mod-lt, div-lt-iff-lt-mul, div-add-mod', suc-mul, mul-le-mul-right}
 use native.Mathlib.Numerals.{add-one}
 use native.Mathlib.Decide.{decLt, ℕ-discrete}
@@ -93,19 +93,19 @@ module _ (g : Shape) (c : ℕ → ℤ) (p : List ℕ) where
     sums = h .second;
   }
 
-  -- the section of stage m, as it is lent
+  -- the section of stage j, as it is lent
+  pub section-is : (m : ℕ) (w : List ℤ) → Holds m w → (j : ℕ) → j ≤ m → (e k : ℕ) → e < elements g → k < 9 → asStage (take (section g) (drop (j * section g) w)) e k ≡ stageOf s j e k
+  section-is m w h j lj e k le lk = part-at (section g) (j * section g) (section g) w (e * 9 + k) (pos 0) refl (omega arith) ∙ h .stage j lj (e * 9 + k) (omega arith)
+      ∙ ap₂ (stageOf s j) (flat e k lk .0) (flat e k lk .1)
+
   module _ (m : ℕ) (w : List ℤ) (lm : m < 3) (h : Holds m w) where
     room : m * section g + section g ≤ length w
     room = omega (arith, part-room (section g) {s = m} {n = 3} lm, h .long)
 
-    lent-is : (e k : ℕ) → e < elements g → k < 9 → asStage (take (section g) (drop (m * section g) w)) e k ≡ stageOf s m e k
-    lent-is e k le lk = part-at (section g) (m * section g) (section g) w (e * 9 + k) (pos 0) refl (omega arith) ∙ h .stage m (omega arith) (e * 9 + k) (omega arith)
-        ∙ ap₂ (stageOf s m) (flat e k lk .0) (flat e k lk .1)
-
     sums-are : Fine g → (i : ℕ) → i < section g → gridSums g c m w i ≡ sumOf s (suc m) (i / 9) (i % 9)
     sums-are fine i q =
         let r = place i q in
-        ap₂ (newSum m) (h .sums i q) (tendency-cong g fine c (asStage (take (section g) (drop (m * section g) w))) (stageOf s m) lent-is (i / 9) (i % 9) (r .0) (r .1)
+        ap₂ (newSum m) (h .sums i q) (tendency-cong g fine c (asStage (take (section g) (drop (m * section g) w))) (stageOf s m) (section-is m w h m (omega arith)) (i / 9) (i % 9) (r .0) (r .1)
         ∙ sym (tendency-is m (i / 9) (i % 9) lm (r .0) (r .1)))
 
     values-are : Fine g → (i : ℕ) → i < section g → gridValues g c m w i ≡ stageOf s (suc m) (i / 9) (i % 9)
@@ -159,3 +159,15 @@ module _ (g : Shape) (c : ℕ → ℤ) (p : List ℕ) where
         go : (i : ℕ) → Dec (i < section g) → Within 1700000000 (at lent i)
         go i (yes q) = subst (Within 1700000000) (sym (part-at (section g) (m * section g) (section g) w i (pos 0) refl q ∙ h .stage m (omega arith) i q)) (stage-within m (i / 9) (i % 9) lm)
         go i (no q) = subst (Within 1700000000) (sym (List·getD-eq-default lent (pos 0) (omega (arith, part-size (section g) (m * section g) (section g) w refl (room m w lm h))))) (within-le (within-pos 0) (omega arith))
+
+    -- the first three sections, whatever came after them
+    pub stages-small : (m : ℕ) (w : List ℤ) → 2 ≤ m → Holds m w → (i : ℕ) → i < 3 * section g → Within 1700000000 (at w i)
+    stages-small m w l h i q = go (decLt i (section g)) (decLt i (2 * section g))
+      where
+        at-stage : (j r : ℕ) → j < 3 → r < section g → i ≡ j * section g + r → Within 1700000000 (at w i)
+        at-stage j r lj lr e = subst (Within 1700000000) (sym (ap (at w) e ∙ h .stage j (omega arith) r lr)) (stage-within j (r / 9) (r % 9) lj)
+
+        go : Dec (i < section g) → Dec (i < 2 * section g) → Within 1700000000 (at w i)
+        go (yes a) b = at-stage 0 i (omega arith) a (omega arith)
+        go (no a) (yes b) = at-stage 1 (i - section g) (omega arith) (omega arith) (omega arith)
+        go (no a) (no b) = at-stage 2 (i - 2 * section g) (omega arith) (omega arith) (omega arith)
