@@ -1,4 +1,4 @@
-// One element's ten numbers. Leaves: the part has ten numbers, and masses are within the limit.
+// One element's ten numbers. Leaves: the part has ten numbers, and masses are within the limit. A step uses the mass, too.
 ghost use mathlib.Core.Path.{_≡_};
 ghost use Prim.Native.Nat.{_+_, _≤_};
 ghost use lib.IntN.{pos};
@@ -26,7 +26,7 @@ pub(crate) fn weigh(numbers: &[u32], n: usize) -> u64
 }
 
 // What an element holds.
-pub(crate) fn mass(part: &[u32]) -> u64
+pub fn mass(part: &[u32]) -> u64
     requires { ⌜ length (now part) ≡ 10 ⌝ }
     ensures { λ r. ⌜ r ≡ mass quadratic (now (part .entry)) 0 ⌝ }
 {

@@ -12,7 +12,7 @@ use rules::Shape;
 use search::LIMIT;
 use search::Total;
 
-mod element; // element.rt: one element's ten numbers
+pub mod element; // element.rt: one element's ten numbers
 mod fill; // fill.rt: loops that fill a buffer
 pub mod places; // places.rt: shapes, and where numbers stand
 pub mod search; // search.rt: the search of a tracer's numbers

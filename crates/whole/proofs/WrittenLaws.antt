@@ -59,6 +59,13 @@ written-next {a} {b} {n} {old} {mid} f h x y room long p ey ex = written-block f
     (written-one (a + n) (b + n) x y mid (omega arith) (omega (arith, p .long)))
     (λ k l. ex ∙ ap f (omega arith)) (λ k l. ey ∙ ap h (omega arith))
 
+-- the same at places that are only equal
+pub written-store : {a b n : ℕ} {old mid : List ℤ} (f h : ℕ → ℤ) (x y : ℤ) (i j : ℕ) → i ≡ a + n → j ≡ b + n → a + (n + 1) ≤ b → b + n < length old → Written a b n f h old mid → y ≡ h n → x ≡ f n
+    → Written a b (n + 1) f h old (set (set mid j y) i x)
+written-store {a} {b} {n} {old} {mid} f h x y i j ei ej room long p ey ex =
+    subst (λ k. Written a b (n + 1) f h old (set (set mid j y) k x)) (sym ei)
+    (subst (λ k. Written a b (n + 1) f h old (set (set mid k y) (a + n) x)) (sym ej) (written-next f h x y room long p ey ex))
+
 -- where the starts and the number are only equal
 pub written-moved : {a b n : ℕ} {f h : ℕ → ℤ} {old new : List ℤ} (a′ b′ n′ : ℕ) → a ≡ a′ → b ≡ b′ → n ≡ n′ → Written a b n f h old new → Written a′ b′ n′ f h old new
 written-moved {a} {b} {n} {f} {h} {old} {new} a′ b′ n′ ea eb en w =

@@ -1,0 +1,2 @@
+-- What the flux correction's leaves ask and answer.
+pub mod Amounts
