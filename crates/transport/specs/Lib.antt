@@ -1,0 +1,2 @@
+-- What the step's leaves ask and answer.
+pub mod Finish
