@@ -95,9 +95,10 @@ close-requires c κs =
     let i = c .before .before .before in
     let b = i .before .before .before .before in
     let l = i .before .loop in
-    let w = b .args .work .now in
-    (part-size 10 (l .start) (l .start + 10 - l .start) (l .part) (add-sub-cancel-left (l .start) 10) (ends i .0),
-    (lent-values (b .args .shape) w (b .args .report .now) (l .e) (l .psi) (l .psi + 9 - l .psi) (b .pre .1 .1) (placed i .inside) (l .inv .2) (add-sub-cancel-left (l .psi) 9) .0, c .before .before .target .ensures .1))
+    let w = b .args .work .now in (
+      part-size 10 (l .start) (l .start + 10 - l .start) (l .part) (add-sub-cancel-left (l .start) 10) (ends i .0),
+      (lent-values (b .args .shape) w (b .args .report .now) (l .e) (l .psi) (l .psi + 9 - l .psi) (b .pre .1 .1) (placed i .inside) (l .inv .2) (add-sub-cancel-left (l .psi) 9) .0, c .before .before .target .ensures .1),
+    )
 
 add-e : tie.Need-add-e Inv-loop μ-loop
 add-e c = search needs
