@@ -1,4 +1,5 @@
 -- Document 01, "Calls on a field" and "Who meets which refusal": what each call answers, and what it leaves in its buffers.
+use mathlib.Core.Path.{_≡_}
 use mathlib.Core.Bool.{Bool, true, _&&_, cond}
 use mathlib.Core.List.{List, [], _∷_, _++_}
 use Prim.Native.Nat.{ℕ, _+_, _*_, _-_}
@@ -43,6 +44,10 @@ pub record Lent : Type 0 where
   pub wind : List ℤ
   pub reportLength : ℕ
   pub workLength : ℕ
+
+-- the same from the buffers themselves
+abbrev pub lent : List ℤ → List ℤ → List ℤ → Lent
+lent wind report work = record { wind = wind; reportLength = length report; workLength = length work }
 
 -- a wind of zeros
 unfoldable pub zeroWind : Shape → List ℤ → List ℤ
@@ -162,6 +167,11 @@ unfoldable pub reportAfter : Answer (List ℤ) → List ℤ → List ℤ
 unfolding overwrite
 reportAfter (accepted r) old = overwrite 0 r old
 reportAfter (refused n) old = old
+
+-- work after a step: "An accepted step leaves work free: any content", of the same length; a refused one leaves it as it was
+abbrev pub WorkAfter : Answer (List ℤ) → List ℤ → List ℤ → Type 0
+WorkAfter (accepted r) old new = length new ≡ length old
+WorkAfter (refused n) old new = new ≡ old
 
 module _ (g : Shape) where
   -- "Wind: one face (east or north, i, j) gets a new C."

@@ -1,2 +1,3 @@
 -- What the step's leaves ask and answer.
 pub mod Finish
+pub mod Checks

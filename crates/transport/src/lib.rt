@@ -1,4 +1,104 @@
 // The step of one tracer under the wind.
+// The call has no `requires`: what document 01 doesn't admit is refused by its number, and a refused call writes nothing.
+ghost use mathlib.Core.Path.{_≡_};
+ghost use mathlib.Core.Bool.{_&&_};
+ghost use Prim.Native.Nat.{_≤_};
+ghost use lib.Dec.{leb};
+ghost use lib.ListN.{length};
+ghost use Rattle.rules.specs.Answers.{outcome, plain};
+ghost use Rattle.rules.specs.Field.{quadratic, faces, workNeeded, fieldLength};
+ghost use Rattle.rules.specs.Calls.{step, Lent, lent, call, windSound, reportAfter, WorkAfter};
+ghost use Rattle.field.specs.Places.{Sized};
+ghost use Rattle.transport.specs.Checks.{lentOf};
+use rules::Outcome;
+use rules::Reading;
+use rules::Refusal;
 use rules::Shape;
 
 mod tracer; // tracer.rt: the step on a tracer's part
+
+// Whether buffers of these lengths are long enough.
+fn lent_enough(field: usize, wind: usize, report: usize, work: usize, shape: Shape) -> bool
+    requires { ⌜ Sized shape ⌝ }
+    ensures { λ r. ⌜ r ≡ (leb (fieldLength quadratic shape) field && (leb (faces shape) wind && (leb (faces shape) report && leb (workNeeded shape) work))) ⌝ }
+{
+    if field < field::places::field_length(shape) {
+        return false;
+    }
+    let faces = field::places::faces(shape);
+    if wind < faces {
+        return false;
+    }
+    if report < faces {
+        return false;
+    }
+    64 * field::places::elements(shape) <= work
+}
+
+// Whether every stored wind is in its range.
+fn winds_sound(wind: &[i16], shape: Shape) -> bool
+    requires { ⌜ Sized shape ⌝ }
+    requires { ⌜ faces shape ≤ length (now wind) ⌝ }
+    ensures { λ r. ⌜ r ≡ windSound shape (now (wind .entry)) ⌝ }
+{
+    let n = field::places::faces(shape);
+    for f in 0..n {
+        if !field::places::wind_in_range(wind[f]) {
+            return false;
+        }
+    }
+    true
+}
+
+// The checks of a step, for a report and a work of these lengths: 2, 4, 5, and then 6 and 7 as a reading of the total meets them.
+fn check(
+    field: &[u32],
+    wind: &[i16],
+    report: usize,
+    work: usize,
+    shape: Shape,
+    tracer: usize,
+) -> Outcome
+    ensures { λ r. ⌜ outcome r ≡ plain (call quadratic shape tracer (step (lentOf (now (wind .entry)) report work)) (now (field .entry)) .reply) ⌝ }
+{
+    if !field::places::admitted(shape) {
+        return Outcome::Refused(Refusal::BadShape);
+    }
+    if !lent_enough(field.len(), wind.len(), report, work, shape) {
+        return Outcome::Refused(Refusal::ShortBuffer);
+    }
+    if !winds_sound(wind, shape) {
+        return Outcome::Refused(Refusal::WindOutOfRange);
+    }
+    let found = field::total(field, shape, tracer);
+    match found {
+        Reading::Refused(r) => Outcome::Refused(r),
+        Reading::Number(_) => Outcome::Accepted,
+    }
+}
+
+// A step of one tracer: its elements and the face report.
+pub fn step(
+    field: &mut [u32],
+    wind: &[i16],
+    report: &mut [i32],
+    work: &mut [i64],
+    shape: Shape,
+    tracer: usize,
+) -> Outcome
+    ensures { λ r. ⌜ outcome r ≡ plain (call quadratic shape tracer (step (lent (now (wind .entry)) (now (report .entry)) (now (work .entry)))) (now (field .entry)) .reply) ⌝ }
+    ensures { λ _. ⌜ now (field .exit) ≡ call quadratic shape tracer (step (lent (now (wind .entry)) (now (report .entry)) (now (work .entry)))) (now (field .entry)) .field ⌝ }
+    ensures { λ _. ⌜ now (report .exit) ≡ reportAfter (call quadratic shape tracer (step (lent (now (wind .entry)) (now (report .entry)) (now (work .entry)))) (now (field .entry)) .reply) (now (report .entry)) ⌝ }
+    ensures { λ _. ⌜ WorkAfter (call quadratic shape tracer (step (lent (now (wind .entry)) (now (report .entry)) (now (work .entry)))) (now (field .entry)) .reply) (now (work .entry)) (now (work .exit)) ⌝ }
+{
+    let checked = check(field, wind, report.len(), work.len(), shape, tracer);
+    match checked {
+        Outcome::Refused(r) => Outcome::Refused(r),
+        Outcome::Accepted => {
+            let start = field::places::tracer_start(shape, tracer);
+            let end = start + field::places::tracer_length(shape);
+            tracer::step(&mut field[start..end], wind, report, work, shape);
+            Outcome::Accepted
+        }
+    }
+}

@@ -1,0 +1,182 @@
+-- The step's checks: what each refusal and an accepted step have shown.
+use mathlib.Core.Path.{_≡_, refl, sym, ap, subst, _∙_}
+use mathlib.Core.Bool.{Bool, true, false, _&&_}
+use mathlib.Core.List.{List, [], _∷_, _++_}
+use Prim.Native.Nat.{ℕ, zero, suc, _+_, _*_, _≤_, _<_}
+use native.Mathlib.Numerals.{add-one}
+use native.Mathlib.Decide.{ℕ-discrete}
+use native.Mathlib.Omega.{arith}
+use lib.Dec.{T, leb, ltb, leb→le, ltb→lt}
+use lib.IntN.{ℤ, natAbs}
+use lib.ListN.{length, take, drop}
+use Rattle.whole.specs.Bound.{Within}
+use Rattle.whole.specs.Sum.{all}
+use Rattle.whole.specs.Table.{overwrite}
+use Rattle.whole.proofs.Cases.{both-yes}
+use Rattle.whole.proofs.SumLaws.{all-at}
+use Rattle.rules.specs.declared.Shape.{Shape}
+use Rattle.rules.specs.Answers.{Answer, accepted, refused, Check, check, answer, plain}
+use Rattle.rules.specs.Field.{quadratic, admitted, elements, faces, workNeeded, fieldLength, tracerLength, part, withPart, total, limit, sound, remainder, weightSum}
+use Rattle.rules.specs.Step.{tracerStep}
+use Rattle.rules.specs.Calls.{Operation, step, Lent, windInRange, windAt, windSound, lentEnough, soundIfThere, checks, done, call, totalReading, reportAfter, WorkAfter}
+use Rattle.rules.proofs.AnswerLaws.{Passed, answer-ind}
+use Rattle.rules.proofs.FieldLaws.{Ranges, ranges}
+use Rattle.rules.proofs.StepLaws.{length-after}
+use Rattle.field.proofs.CheckLaws.{prefix-refused, prefix-accepted}
+use Rattle.grid.specs.Place.{Fine}
+use Rattle.upwind.specs.Upwind.{Calm}
+use Rattle.transport.specs.Checks.{lentOf}
+
+-- ---- a test of all indices
+pub all-more : (n : ℕ) (f : ℕ → Bool) → all n f ≡ true → f n ≡ true → all (n + 1) f ≡ true
+unfolding all
+all-more n f e h = rw (add-one n, e, h)
+
+pub all-fails : (n : ℕ) (f : ℕ → Bool) (k : ℕ) → k < n → f k ≡ false → all n f ≡ false
+unfolding all
+all-fails zero f k h e = let c : ⊥ = omega arith in absurd c
+all-fails (suc n) f k h e = go (ℕ-discrete k n) (λ l. all-fails n f k l e)
+  where
+    last : (a b : Bool) → b ≡ false → (a && b) ≡ false
+    last true b q = q
+    last false b q = refl
+
+    first : (a b : Bool) → a ≡ false → (a && b) ≡ false
+    first true b q = let z : _≡_ {A = ℕ} 0 1 = cc in absurd (omega arith)
+    first false b q = refl
+
+    go : Dec (k ≡ n) → (k < n → all n f ≡ false) → (all n f && f n) ≡ false
+    go (yes q) ih = last (all n f) (f n) (ap f (sym q) ∙ e)
+    go (no q) ih = first (all n f) (f n) (ih (omega (arith, q)))
+
+-- ---- the call's answer, by its tests
+module _ (g : Shape) (s : ℕ) (f : List ℕ) (wind : List ℤ) (rl wl : ℕ) where
+  abbrev op : Operation Lent
+  op = step (lentOf wind rl wl)
+
+  abbrev p : List ℕ
+  p = part quadratic g s f
+
+  -- the buffers are long enough
+  abbrev pub enough : Bool
+  enough = leb (fieldLength quadratic g) (length f) && (leb (faces g) (length wind) && (leb (faces g) rl && leb (workNeeded g) wl))
+
+  -- 6 and 7
+  abbrev last-two : List Check
+  last-two = check 6 (soundIfThere quadratic g (ltb s (g .tracers)) p) ∷ check 7 (ltb s (g .tracers)) ∷ []
+
+  abbrev r : List ℤ
+  r = tracerStep quadratic g (windAt wind) p .report
+
+  pub step-2 : admitted g ≡ false → call quadratic g s op f .reply ≡ refused 2
+  unfolding call answer
+  step-2 a = rw a
+
+  pub step-4 : admitted g ≡ true → enough ≡ false → call quadratic g s op f .reply ≡ refused 4
+  unfolding call answer lentEnough
+  step-4 a e = rw (a, e)
+
+  pub step-5 : admitted g ≡ true → enough ≡ true → windSound g wind ≡ false → call quadratic g s op f .reply ≡ refused 5
+  unfolding call answer lentEnough checks
+  step-5 a e w = rw (a, e, w)
+
+  rest : admitted g ≡ true → enough ≡ true → windSound g wind ≡ true → call quadratic g s op f .reply ≡ answer last-two r
+  unfolding call answer lentEnough checks done
+  rest a e w = rw (a, e, w)
+
+  field-enough : (a b : Bool) → (a && b) ≡ true → a ≡ true
+  field-enough true b e = refl
+  field-enough false b e = e
+
+  reading : admitted g ≡ true → enough ≡ true → totalReading quadratic g s f ≡ answer last-two (total quadratic g p)
+  unfolding totalReading answer
+  reading a e = rw (a, field-enough (leb (fieldLength quadratic g) (length f)) _ e)
+
+  pub step-refused : (n : ℕ) → admitted g ≡ true → enough ≡ true → windSound g wind ≡ true → totalReading quadratic g s f ≡ refused n → call quadratic g s op f .reply ≡ refused n
+  step-refused n a e w t = rest a e w ∙ prefix-refused last-two [] (total quadratic g p) r n (sym (reading a e) ∙ t)
+
+  pub step-accepted : (t : ℕ) → admitted g ≡ true → enough ≡ true → windSound g wind ≡ true → totalReading quadratic g s f ≡ accepted t → call quadratic g s op f .reply ≡ accepted r
+  unfolding answer
+  step-accepted t a e w q = rest a e w ∙ prefix-accepted last-two [] (total quadratic g p) t r (sym (reading a e) ∙ q)
+
+  -- what an accepted step has shown
+  pub record Stepping : Type 0 where
+    pub fine : Fine g
+    pub shape : Ranges g
+    pub room : fieldLength quadratic g ≤ length f
+    pub tracer : s < g .tracers
+    pub calm : Calm g wind
+    pub reports : faces g ≤ rl
+    pub works : workNeeded g ≤ wl
+    pub light : total quadratic g p ≤ 100000000
+    pub answers : call quadratic g s op f .reply ≡ accepted r
+
+  winds-calm : faces g ≤ length wind → T (windSound g wind) → Calm g wind
+  unfolding windSound
+  winds-calm long t = record { long = long; small = λ f l. record { within = leb→le (natAbs (windAt wind f)) 1024 (all-at (faces g) (λ f. windInRange (windAt wind f)) t f l) } }
+
+  there : (b : Bool) → T b → T (soundIfThere quadratic g b p) → T (sound quadratic g p)
+  unfolding soundIfThere
+  there true t h = h
+  there false t h = absurd t
+
+  total-small : T (sound quadratic g p) → total quadratic g p ≤ limit
+  unfolding sound
+  total-small t = leb→le _ _ (both-yes (all (elements g) (λ e. ltb (remainder quadratic p e) (weightSum quadratic))) (leb (total quadratic g p) limit) t .1)
+
+  abbrev all-checks : List Check
+  all-checks = check 2 (admitted g) ∷ check 4 enough ∷ check 5 (windSound g wind) ∷ last-two
+
+  reply-is : call quadratic g s op f .reply ≡ answer all-checks r
+  unfolding call lentEnough checks done
+  reply-is = refl
+
+  stepping-of : Passed all-checks → call quadratic g s op f .reply ≡ accepted r → Stepping
+  stepping-of c e =
+      let shape = ranges g (c .0) in
+      let b = both-yes (leb (fieldLength quadratic g) (length f)) _ (c .1 .0) in
+      let w = both-yes (leb (faces g) (length wind)) _ (b .1) in
+      let q = both-yes (leb (faces g) rl) (leb (workNeeded g) wl) (w .1) in
+      record {
+        fine = record { nx-above = shape .nx-above; nx-small = shape .nx-small; ny-above = shape .ny-above; ny-small = shape .ny-small };
+        shape = shape;
+        room = leb→le _ _ (b .0);
+        tracer = ltb→lt _ _ (c .1 .1 .1 .1 .0);
+        calm = winds-calm (leb→le _ _ (w .0)) (c .1 .1 .0);
+        reports = leb→le _ _ (q .0);
+        works = leb→le _ _ (q .1);
+        light = total-small (there (ltb s (g .tracers)) (c .1 .1 .1 .1 .0) (c .1 .1 .1 .0));
+        answers = e;
+      }
+
+  pub stepping : plain (call quadratic g s op f .reply) ≡ accepted tt → Stepping
+  unfolding plain
+  stepping e = answer-ind (λ a. call quadratic g s op f .reply ≡ a → plain a ≡ accepted tt → Stepping) all-checks r
+      (λ n q z. let w : _≡_ {A = ℕ} 0 1 = cc in absurd (omega arith)) (λ c q z. stepping-of c q) reply-is (ap plain (sym reply-is) ∙ e)
+
+-- ---- an answer that is plainly refused
+pub plain-refused : {A : Type 0} (a : Answer A) (n : ℕ) → plain a ≡ refused n → a ≡ refused n
+unfolding plain
+plain-refused (accepted x) n e = let w : _≡_ {A = ℕ} 0 1 = cc in absurd (omega arith)
+plain-refused (refused m) n e = cc
+
+-- ---- what a call leaves of report and work
+pub report-refused : (a : Answer (List ℤ)) (n : ℕ) (old : List ℤ) → a ≡ refused n → old ≡ reportAfter a old
+unfolding reportAfter
+report-refused a n old e = sym (ap (λ x. reportAfter x old) e)
+
+pub report-accepted : (a : Answer (List ℤ)) (r old : List ℤ) → a ≡ accepted r → overwrite 0 r old ≡ reportAfter a old
+unfolding reportAfter
+report-accepted a r old e = sym (ap (λ x. reportAfter x old) e)
+
+pub work-refused : (a : Answer (List ℤ)) (n : ℕ) (old : List ℤ) → a ≡ refused n → WorkAfter a old old
+work-refused a n old e = subst (λ x. WorkAfter x old old) (sym e) refl
+
+pub work-accepted : (a : Answer (List ℤ)) (r old new : List ℤ) → a ≡ accepted r → length new ≡ length old → WorkAfter a old new
+work-accepted a r old new e h = subst (λ x. WorkAfter x old new) (sym e) h
+
+-- the part that was lent and written, back in its place
+pub part-back : (g : Shape) (s at k : ℕ) (x new f : List ℕ) → at ≡ s * tracerLength quadratic g → k ≡ tracerLength quadratic g → x ≡ new → length new ≡ tracerLength quadratic g
+    → take at f ++ (x ++ drop k (drop at f)) ≡ withPart quadratic g s new f
+unfolding withPart overwrite
+part-back g s at k x new f ea ek ex size = rw (ea, ek ∙ sym size, ex)

@@ -1,0 +1,118 @@
+use mathlib.Core.Path.{_≡_, refl, sym, ap, _∙_}
+use mathlib.Core.List.{List, _++_}
+use Prim.Native.Nat.{ℕ, _≤_, _<_, _-_, _+_, _*_}
+use borrow.Author.Needs.{needs}
+use native.Mathlib.Omega.{arith}
+use native.Mathlib.Nat.{add-sub-cancel-left}
+use lib.ListN.{length, take, drop}
+use Rattle.rules.specs.Answers.{outcome, plain}
+use Rattle.rules.specs.Field.{quadratic, elements, part, total}
+use Rattle.rules.specs.Step.{tracerStep}
+use Rattle.rules.specs.Calls.{step, lent, windAt, done, call}
+use Rattle.whole.specs.Table.{overwrite}
+use Rattle.rules.proofs.PartLaws.{part-length}
+use Rattle.rules.proofs.StepLaws.{length-after}
+use Rattle.rules.specs.Stages.{stages}
+use Rattle.field.proofs.CheckLaws.{call-refused, call-accepted}
+use Rattle.field.proofs.PlaceLaws.{sized, tracer-is, field-is, field-le, tracer-room}
+use Rattle.transport.proofs.CheckLaws.{Stepping, stepping, plain-refused, report-refused, report-accepted, work-refused, work-accepted, part-back}
+use Rattle.transport.proofs.step.Statement.{statement}
+use Rattle.transport.proofs.step.Tie as tie
+
+check-requires : tie.Need-check-requires
+check-requires c κs = search needs
+
+enum-known-checked : tie.Need-enum-known-checked
+enum-known-checked c = search needs
+
+enum-told : tie.Need-enum-told
+enum-told c = search needs
+
+-- what the checks have shown
+facts : (c : tie.After-enum-told) → Stepping (c .before .before .before .before .before .args .shape) (c .before .before .before .before .before .args .tracer) (c .before .before .before .before .before .args .field .now) (c .before .before .before .before .before .args .wind .now) (length (c .before .before .before .before .before .args .report .now)) (length (c .before .before .before .before .before .args .work .now))
+facts c = stepping (c .before .before .before .before .before .args .shape) (c .before .before .before .before .before .args .tracer) (c .before .before .before .before .before .args .field .now) (c .before .before .before .before .before .args .wind .now) (length (c .before .before .before .before .before .args .report .now)) (length (c .before .before .before .before .before .args .work .now)) (sym (c .before .before .check .ensures) ∙ ap outcome (c .enum-told .given .1))
+
+tracer-start-requires : tie.Need-tracer-start-requires
+tracer-start-requires c κs = let h = facts c in (sized (h .shape), h .tracer)
+
+tracer-length-requires : tie.Need-tracer-length-requires
+tracer-length-requires c κs = sized (facts (c .before) .shape)
+
+-- the tracer's part ends within the field, and what is lent is that part
+ends : (c : tie.After-tracer-length) → (c .before .tracer-start .result + c .tracer-length .result ≤ length (c .before .before .before .before .before .before .before .args .field .now)) × (c .before .tracer-start .result + c .tracer-length .result ≤ 327680)
+ends c =
+    let a = c .before .before .before .before .before .before .before .args in
+    let h = facts (c .before .before) in
+    let r = tracer-room (a .shape) (a .tracer) (h .tracer) in
+    (omega (arith, r, h .room, c .before .tracer-start .ensures, c .tracer-length .ensures), omega (arith, r, field-is (a .shape), field-le (a .shape) (sized (h .shape)), c .before .tracer-start .ensures, c .tracer-length .ensures))
+
+lent-is : (c : tie.After-tracer-length) → take (c .before .tracer-start .result + c .tracer-length .result - c .before .tracer-start .result) (drop (c .before .tracer-start .result) (c .before .before .before .before .before .before .before .args .field .now)) ≡ part quadratic (c .before .before .before .before .before .before .before .args .shape) (c .before .before .before .before .before .before .before .args .tracer) (c .before .before .before .before .before .before .before .args .field .now)
+unfolding part
+lent-is c = rw (add-sub-cancel-left (c .before .tracer-start .result) (c .tracer-length .result), c .before .tracer-start .ensures, c .tracer-length .ensures)
+
+add-end : tie.Need-add-end
+add-end c = record { fits = omega (arith, ends c) }
+
+mul-step : tie.Need-mul-step
+mul-step c = omega (arith, ends c)
+
+sub-step : tie.Need-sub-step
+sub-step c = search needs
+
+part-step-start : tie.Need-part-step-start
+part-step-start c = search needs
+
+part-step-end : tie.Need-part-step-end
+part-step-end c = omega (arith, ends c)
+
+step-requires : tie.Need-step-requires
+step-requires c κs =
+    let t = c .before .before .before in
+    let a = c .before .before .before .before .before .before .before .before .before .before .args in
+    let h = facts (c .before .before .before .before .before) in
+    (h .fine, (ap length (lent-is t) ∙ part-length quadratic (a .shape) (a .tracer) (a .field .now) (h .tracer) (h .room) ∙ tracer-is (a .shape), (omega (arith, ap (total quadratic (a .shape)) (lent-is t), h .light), (h .calm, (h .reports, h .works)))))
+
+same-length : tie.Need-same-length
+same-length c = search needs
+
+returns : tie.Need-returns
+returns c =
+    let a = c .before .before .before .before .before .before .args in
+    let l = lent (a .wind .now) (a .report .now) (a .work .now) in
+    let e = plain-refused (call quadratic (a .shape) (a .tracer) (step l) (a .field .now) .reply) _ (sym (c .before .before .before .check .ensures) ∙ ap outcome (c .before .checked .given .1)) in
+    let q = call-refused (a .shape) (a .tracer) (step l) (a .field .now) _ e in
+    (q .0, (q .1, (report-refused _ _ (a .report .now) e, work-refused _ _ (a .work .now) e)))
+
+same-length-2 : tie.Need-same-length-2
+same-length-2 c = search needs
+
+same-length-3 : tie.Need-same-length-3
+same-length-3 c = search needs
+
+same-length-4 : tie.Need-same-length-4
+same-length-4 c = search needs
+
+returns-2 : tie.Need-returns-2
+unfolding done tracerStep
+returns-2 c =
+    let a = c .before .before .before .before .before .before .before .before .before .before .before .before .before .before .before .args in
+    let t = c .before .before .before .before .before .before .before .before in
+    let s = c .before .before .before .before .before .before .before .before .before .tracer-start .result in
+    let n = t .tracer-length .result in
+    let h = facts (c .before .before .before .before .before .before .before .before .before .before) in
+    let l = lent (a .wind .now) (a .report .now) (a .work .now) in
+    let w = windAt (a .wind .now) in
+    let p = part quadratic (a .shape) (a .tracer) (a .field .now) in
+    let d = c .before .before .before .before .step .ensures in
+    let e = h .answers in
+    let q = call-accepted (a .shape) (a .tracer) (step l) (a .field .now) _ e in (
+      q .0,
+      (
+        part-back (a .shape) (a .tracer) s (s + n - s) _ (tracerStep quadratic (a .shape) w p .part) (a .field .now) (c .before .before .before .before .before .before .before .before .before .tracer-start .ensures) (add-sub-cancel-left s n ∙ t .tracer-length .ensures)
+            (d .0 ∙ ap (λ x. tracerStep quadratic (a .shape) w x .part) (lent-is t)) (length-after quadratic (a .shape) (h .fine .nx-above) (h .fine .ny-above) w p (stages quadratic (a .shape) w p)) ∙ q .1,
+        (d .1 ∙ ap (λ x. overwrite 0 (tracerStep quadratic (a .shape) w x .report) (a .report .now)) (lent-is t) ∙ report-accepted _ _ (a .report .now) e, work-accepted _ _ (a .work .now) _ e (same-length-4 c)),
+      ),
+    )
+
+pub step-spec : {M : Type 1} → statement M
+step-spec = tie.close (tie.spec check-requires enum-known-checked enum-told tracer-start-requires tracer-length-requires add-end mul-step sub-step part-step-start part-step-end step-requires same-length returns same-length-2 same-length-3 same-length-4 returns-2)
