@@ -1,0 +1,2 @@
+-- Shapes and answers as numbers.
+pub mod Numbers
