@@ -38,12 +38,12 @@ fn place_winds(cw: i64, ce: i64) -> [i64; 3]
 }
 
 // The sum over a line of nodes, those at start, start + stride, .., at one place of it.
-fn along(c: [i64; 3], v: [i64; 9], start: usize, stride: usize, place: usize) -> i64
-    requires { ⌜ AllWithin 8192 c ⌝ }
-    requires { ⌜ AllWithin 1700000000 v ⌝ }
+fn along(c: &[i64; 3], v: &[i64; 9], start: usize, stride: usize, place: usize) -> i64
+    requires { ⌜ AllWithin 8192 (now c) ⌝ }
+    requires { ⌜ AllWithin 1700000000 (now v) ⌝ }
     requires { ⌜ start + 2 * stride < 9 ⌝ }
     requires { ⌜ place < 3 ⌝ }
-    ensures { λ r. ⌜ Are 752025600000000 r (alongLine c v start stride place) ⌝ }
+    ensures { λ r. ⌜ Are 752025600000000 r (alongLine (now (c .entry)) (now (v .entry)) start stride place) ⌝ }
 {
     let mut x: i64 = 0;
     for q in 0..3 {
@@ -71,20 +71,20 @@ fn with_ends(sum: i64, place: usize, first: i64, last: i64) -> i64
 // One line of nodes: the sum with its ends, at each place.
 fn line(
     out: &mut [i64],
-    c: [i64; 3],
-    v: [i64; 9],
+    c: &[i64; 3],
+    v: &[i64; 9],
     start: usize,
     stride: usize,
     first: i64,
     last: i64,
 )
     requires { ⌜ length (now out) ≡ 3 ⌝ }
-    requires { ⌜ AllWithin 8192 c ⌝ }
-    requires { ⌜ AllWithin 1700000000 v ⌝ }
+    requires { ⌜ AllWithin 8192 (now c) ⌝ }
+    requires { ⌜ AllWithin 1700000000 (now v) ⌝ }
     requires { ⌜ start + 2 * stride < 9 ⌝ }
     requires { ⌜ Within 20889600000000 first ⌝ }
     requires { ⌜ Within 20889600000000 last ⌝ }
-    ensures { λ _. ⌜ now (out .exit) ≡ table 3 (lineAt c v start stride first last) ⌝ }
+    ensures { λ _. ⌜ now (out .exit) ≡ table 3 (lineAt (now (c .entry)) (now (v .entry)) start stride first last) ⌝ }
 {
     for place in 0..3 {
         let sum = along(c, v, start, stride, place);
@@ -95,21 +95,21 @@ fn line(
 // Document 01's X (or Y) at the nodes of the three lines that go one way: line b starts at step b and goes on by stride. The upwind
 // values of the lines' first ends stand in u from place side on, those of their last ends three places further.
 fn lines(
-    v: [i64; 9],
+    v: &[i64; 9],
     cw: i64,
     ce: i64,
-    u: [i64; 12],
+    u: &[i64; 12],
     side: usize,
     step: usize,
     stride: usize,
 ) -> [i64; 9]
-    requires { ⌜ AllWithin 1700000000 v ⌝ }
+    requires { ⌜ AllWithin 1700000000 (now v) ⌝ }
     requires { ⌜ Within 1024 cw ⌝ }
     requires { ⌜ Within 1024 ce ⌝ }
-    requires { ⌜ AllWithin 1700000000 u ⌝ }
+    requires { ⌜ AllWithin 1700000000 (now u) ⌝ }
     requires { ⌜ side ≤ 6 ⌝ }
     requires { ⌜ 2 * step + 2 * stride < 9 ⌝ }
-    ensures { λ r. ⌜ r ≡ table 9 (lineNodes v cw ce u side step stride) ⌝ }
+    ensures { λ r. ⌜ r ≡ table 9 (lineNodes (now (v .entry)) cw ce (now (u .entry)) side step stride) ⌝ }
 {
     let c = place_winds(cw, ce);
     let mut x = [0i64; 9];
@@ -118,7 +118,7 @@ fn lines(
         let end = at + 3;
         let first = 12 * cw * u[side + b];
         let last = 12 * ce * u[side + 3 + b];
-        line(&mut x[at..end], c, v, step * b, stride, first, last);
+        line(&mut x[at..end], &c, v, step * b, stride, first, last);
         at = end;
     }
     x
@@ -126,11 +126,11 @@ fn lines(
 
 // The tendency at each node. The winds c are those of the west, east, south and north face, and u has the three upwind values
 // of each, in this order.
-pub fn tendencies(v: [i64; 9], c: [i64; 4], u: [i64; 12]) -> [i64; 9]
-    requires { ⌜ AllWithin 1700000000 v ⌝ }
-    requires { ⌜ AllWithin 1024 c ⌝ }
-    requires { ⌜ AllWithin 1700000000 u ⌝ }
-    ensures { λ r. ⌜ r ≡ table 9 (localTendency (at v) (at c) (at u)) ⌝ }
+pub fn tendencies(v: &[i64; 9], c: &[i64; 4], u: &[i64; 12]) -> [i64; 9]
+    requires { ⌜ AllWithin 1700000000 (now v) ⌝ }
+    requires { ⌜ AllWithin 1024 (now c) ⌝ }
+    requires { ⌜ AllWithin 1700000000 (now u) ⌝ }
+    ensures { λ r. ⌜ r ≡ table 9 (localTendency (at (now (v .entry))) (at (now (c .entry))) (at (now (u .entry)))) ⌝ }
 {
     let x = lines(v, c[0], c[1], u, 0, 3, 1);
     let y = lines(v, c[2], c[3], u, 6, 1, 3);

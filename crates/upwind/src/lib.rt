@@ -49,9 +49,9 @@ pub fn upwind_start(c: i64, behind: usize, ahead: usize, last: usize) -> usize
 }
 
 // The same for an element's four sides.
-fn starts(c: [i64; 4], shape: Shape, e: usize) -> [usize; 4]
+fn starts(c: &[i64; 4], shape: Shape, e: usize) -> [usize; 4]
     requires { ⌜ Placed shape e ⌝ }
-    ensures { λ r. ⌜ r ≡ table 4 (sideStart shape c e) ⌝ }
+    ensures { λ r. ⌜ r ≡ table 4 (sideStart shape (now (c .entry)) e) ⌝ }
 {
     let west = grid::west(shape, e);
     let east = grid::east(shape, e);
@@ -67,9 +67,9 @@ fn starts(c: [i64; 4], shape: Shape, e: usize) -> [usize; 4]
 }
 
 // The upwind values of the four sides, three of each.
-fn upwind_values(phi: &[i64], starts: [usize; 4]) -> [i64; 12]
-    requires { ⌜ Reached starts (now phi) ⌝ }
-    ensures { λ r. ⌜ r ≡ table 12 (λ m. at (now (phi .entry)) (upwindPlace starts m)) ⌝ }
+fn upwind_values(phi: &[i64], starts: &[usize; 4]) -> [i64; 12]
+    requires { ⌜ Reached (now starts) (now phi) ⌝ }
+    ensures { λ r. ⌜ r ≡ table 12 (λ m. at (now (phi .entry)) (upwindPlace (now (starts .entry)) m)) ⌝ }
 {
     let mut u = [0i64; 12];
     for m in 0..12 {
@@ -101,8 +101,8 @@ pub fn tendencies(phi: &[i64], wind: &[i16], shape: Shape, e: usize) -> [i64; 9]
     ensures { λ r. ⌜ r ≡ table 9 (tendency quadratic shape (windAt (now (wind .entry))) (asStage (now (phi .entry))) e) ⌝ }
 {
     let c = side_winds(wind, shape, e);
-    let s = starts(c, shape, e);
-    let u = upwind_values(phi, s);
+    let s = starts(&c, shape, e);
+    let u = upwind_values(phi, &s);
     let v = values(phi, e * 9);
-    tendency::tendencies(v, c, u)
+    tendency::tendencies(&v, &c, &u)
 }

@@ -14,10 +14,10 @@ use Rattle.tendency.proofs.along.Statement.{statement}
 use Rattle.tendency.proofs.along.Tie as tie
 
 abbrev Inv-loop : tie.InvT-loop
-Inv-loop start stride place c v x₀ q₀ x q = (q ≤ 3) × Are 752025600000000 (toZ w64 x) (sumℤ q (term c v start stride place))
+Inv-loop c v start stride place x₀ q₀ x q = (q ≤ 3) × Are 752025600000000 (toZ w64 x) (sumℤ q (term c v start stride place))
 
 abbrev μ-loop : tie.MeasureT-loop
-μ-loop start stride place c v x₀ q₀ x q = 3 - q
+μ-loop c v start stride place x₀ q₀ x q = 3 - q
 
 loop-holds : tie.Need-loop-holds Inv-loop μ-loop
 unfolding sumℤ
@@ -26,8 +26,8 @@ loop-holds c = (omega arith, record { same = refl; bound = record { within = ome
 mul-x : tie.Need-mul-x Inv-loop μ-loop
 mul-x c = search needs
 
-array-copy-out-x : tie.Need-array-copy-out-x Inv-loop μ-loop
-array-copy-out-x c = search needs
+element-copy-out-x : tie.Need-element-copy-out-x Inv-loop μ-loop
+element-copy-out-x c = search needs
 
 -- a line's places are within the element
 reach : (c : tie.After-x Inv-loop μ-loop) → c .before .before .before .args .stride * c .before .before .loop .q ≤ c .before .before .before .args .stride * 2
@@ -42,8 +42,8 @@ add-x c = record { fits = omega (arith, reach c) }
 mul-x-3 : tie.Need-mul-x-3 Inv-loop μ-loop
 mul-x-3 c = record { fits = omega (arith, reach c) }
 
-array-copy-out-x-2 : tie.Need-array-copy-out-x-2 Inv-loop μ-loop
-array-copy-out-x-2 c = omega (arith, reach c)
+element-copy-out-x-2 : tie.Need-element-copy-out-x-2 Inv-loop μ-loop
+element-copy-out-x-2 c = omega (arith, reach c)
 
 mul-x-4 : tie.Need-mul-x-4 Inv-loop μ-loop
 mul-x-4 c = let h = c .before .before .before .before .pre in fits (search sizes depth 20) tt
@@ -57,8 +57,8 @@ add-x-2 c = search needs
 mul-x-6 : tie.Need-mul-x-6 Inv-loop μ-loop
 mul-x-6 c = search needs
 
-array-copy-out-x-3 : tie.Need-array-copy-out-x-3 Inv-loop μ-loop
-array-copy-out-x-3 c = search needs
+array-copy-out-x : tie.Need-array-copy-out-x Inv-loop μ-loop
+array-copy-out-x c = search needs
 
 mul-x-7 : tie.Need-mul-x-7 Inv-loop μ-loop
 mul-x-7 c = let h = c .before .before .before .before .before .pre in fits (search sizes depth 20) tt
@@ -79,10 +79,10 @@ loop-again c =
     let s = c .before .before .before .before .loop .inv .1 in
     let q = c .before .before .before .before .loop .q in
     let a = b .args in
-    (omega arith, record { same = exact (search exacts depth 20) tt ∙ sym (sumℤ-more q (term (a .t1) (a .t2) (a .start) (a .stride) (a .place))); bound = terms-within (a .t1) (a .t2) (a .start) (a .stride) (a .place) _ (h .0) (h .1 .0) (omega arith) })
+    (omega arith, record { same = exact (search exacts depth 20) tt ∙ sym (sumℤ-more q (term (a .c .now) (a .v .now) (a .start) (a .stride) (a .place))); bound = terms-within (a .c .now) (a .v .now) (a .start) (a .stride) (a .place) _ (h .0) (h .1 .0) (omega arith) })
 
 returns : tie.Need-returns Inv-loop μ-loop
-returns c = let a = c .before .before .args in let e : c .before .loop .q ≡ 3 = omega arith in are-eq (rw e at (c .before .loop .inv .1)) (terms-are (a .t1) (a .t2) (a .start) (a .stride) (a .place))
+returns c = let a = c .before .before .args in let e : c .before .loop .q ≡ 3 = omega arith in are-eq (rw e at (c .before .loop .inv .1)) (terms-are (a .c .now) (a .v .now) (a .start) (a .stride) (a .place))
 
 pub along-spec : {M : Type 1} → statement M
-along-spec = tie.close (tie.spec Inv-loop μ-loop loop-holds mul-x array-copy-out-x mul-x-2 add-x mul-x-3 array-copy-out-x-2 mul-x-4 mul-x-5 add-x-2 mul-x-6 array-copy-out-x-3 mul-x-7 add-x-3 add-q loop-less loop-again returns)
+along-spec = tie.close (tie.spec Inv-loop μ-loop loop-holds mul-x element-copy-out-x mul-x-2 add-x mul-x-3 element-copy-out-x-2 mul-x-4 mul-x-5 add-x-2 mul-x-6 array-copy-out-x mul-x-7 add-x-3 add-q loop-less loop-again returns)

@@ -45,7 +45,7 @@ loop-less : tie.Need-loop-less Inv-loop μ-loop
 loop-less c = search needs
 
 -- what a turn stores
-stored : (c : tie.After-with-ends Inv-loop μ-loop) → toZ w64 (ofZ w64 (c .with-ends .result)) ≡ lineAt (c .before .before .before .before .args .c) (c .before .before .before .before .args .v) (c .before .before .before .before .args .start) (c .before .before .before .before .args .stride) (toZ w64 (ofZ w64 (c .before .before .before .before .args .first))) (toZ w64 (ofZ w64 (c .before .before .before .before .args .last))) (c .before .before .before .loop .place)
+stored : (c : tie.After-with-ends Inv-loop μ-loop) → toZ w64 (ofZ w64 (c .with-ends .result)) ≡ lineAt (c .before .before .before .before .args .c .now) (c .before .before .before .before .args .v .now) (c .before .before .before .before .args .start) (c .before .before .before .before .args .stride) (toZ w64 (ofZ w64 (c .before .before .before .before .args .first))) (toZ w64 (ofZ w64 (c .before .before .before .before .args .last))) (c .before .before .before .loop .place)
 stored c =
     let a = c .before .before .before .before .args in
     let k = c .before .before .before .loop .place in
@@ -56,7 +56,7 @@ loop-again c =
     let l = c .before .before .before .loop in
     let a = c .before .before .before .before .args in
     let x = stored c in
-    (omega arith, rw length-set (l .inv .1), fill-next (l .place) (lineAt (a .c) (a .v) (a .start) (a .stride) (toZ w64 (ofZ w64 (a .first))) (toZ w64 (ofZ w64 (a .last)))) _ _ _ (l .inv .2) (omega (arith, c .before .before .before .before .pre .0)) x)
+    (omega arith, rw length-set (l .inv .1), fill-next (l .place) (lineAt (a .c .now) (a .v .now) (a .start) (a .stride) (toZ w64 (ofZ w64 (a .first))) (toZ w64 (ofZ w64 (a .last)))) _ _ _ (l .inv .2) (omega (arith, c .before .before .before .before .pre .0)) x)
 
 same-length : tie.Need-same-length Inv-loop μ-loop
 same-length c = c .before .loop .inv .1 ∙ sym (c .before .before .pre .0)
@@ -66,8 +66,8 @@ returns c =
     let b = c .before .before in
     let a = b .args in
     let e : c .before .loop .place ≡ 3 = omega arith in
-    (rw e at (c .before .loop .inv .2)) ∙ ap (λ y. table 3 (lineAt (a .c) (a .v) (a .start) (a .stride) (toZ w64 (ofZ w64 (a .first))) (toZ w64 (ofZ w64 (a .last)))) ++ y) (drop-of-length-le (a .out .now) {i = 3} (omega (arith, b .pre .0))) ∙ append-nil _
-    ∙ ap₂ (λ x y. table 3 (lineAt (a .c) (a .v) (a .start) (a .stride) x y)) (toZ-ofZ (b .fits .first)) (toZ-ofZ (b .fits .last))
+    (rw e at (c .before .loop .inv .2)) ∙ ap (λ y. table 3 (lineAt (a .c .now) (a .v .now) (a .start) (a .stride) (toZ w64 (ofZ w64 (a .first))) (toZ w64 (ofZ w64 (a .last)))) ++ y) (drop-of-length-le (a .out .now) {i = 3} (omega (arith, b .pre .0))) ∙ append-nil _
+    ∙ ap₂ (λ x y. table 3 (lineAt (a .c .now) (a .v .now) (a .start) (a .stride) x y)) (toZ-ofZ (b .fits .first)) (toZ-ofZ (b .fits .last))
 
 pub line-spec : {M : Type 1} → statement M
 line-spec = tie.close (tie.spec Inv-loop μ-loop loop-holds along-requires with-ends-requires mul-t12 slice-set-from-out add-place loop-less loop-again same-length returns)

@@ -16,49 +16,49 @@ use Rattle.tendency.proofs.tendencies.Statement.{statement}
 use Rattle.tendency.proofs.tendencies.Tie as tie
 
 abbrev Inv-loop : tie.InvT-loop
-Inv-loop x y t₀ k₀ t k = (k ≤ 9) × (length t ≡ 9) × (t ≡ table k (combined x y) ++ drop k t₀)
+Inv-loop v c u x y t₀ k₀ t k = (k ≤ 9) × (length t ≡ 9) × (t ≡ table k (combined x y) ++ drop k t₀)
 
 abbrev μ-loop : tie.MeasureT-loop
-μ-loop x y t₀ k₀ t k = 9 - k
+μ-loop v c u x y t₀ k₀ t k = 9 - k
 
-array-copy-out-lines : tie.Need-array-copy-out-lines Inv-loop μ-loop
-array-copy-out-lines c = search needs
+element-copy-out-lines : tie.Need-element-copy-out-lines Inv-loop μ-loop
+element-copy-out-lines c = search needs
 
-array-copy-out-lines-2 : tie.Need-array-copy-out-lines-2 Inv-loop μ-loop
-array-copy-out-lines-2 c = search needs
+element-copy-out-lines-2 : tie.Need-element-copy-out-lines-2 Inv-loop μ-loop
+element-copy-out-lines-2 c = search needs
 
 lines-requires : tie.Need-lines-requires Inv-loop μ-loop
 lines-requires c κs = let h = c .before .before .pre in (h .0, (within (search sizes depth 20) tt, (within (search sizes depth 20) tt, (h .1 .1, (omega arith, omega arith)))))
 
-array-copy-out-lines-3 : tie.Need-array-copy-out-lines-3 Inv-loop μ-loop
-array-copy-out-lines-3 c = search needs
+element-copy-out-lines-3 : tie.Need-element-copy-out-lines-3 Inv-loop μ-loop
+element-copy-out-lines-3 c = search needs
 
-array-copy-out-lines-4 : tie.Need-array-copy-out-lines-4 Inv-loop μ-loop
-array-copy-out-lines-4 c = search needs
+element-copy-out-lines-4 : tie.Need-element-copy-out-lines-4 Inv-loop μ-loop
+element-copy-out-lines-4 c = search needs
 
 lines-requires-2 : tie.Need-lines-requires-2 Inv-loop μ-loop
 lines-requires-2 c κs = let h = c .before .before .before .before .before .pre in (h .0, (within (search sizes depth 20) tt, (within (search sizes depth 20) tt, (h .1 .1, (omega arith, omega arith)))))
 
 -- X and Y at every node
-xs : (c : tie.After-lines2 Inv-loop μ-loop) → c .before .before .before .lines .result ≡ table 9 (lineNodes (c .before .before .before .before .before .before .args .v) (at (c .before .before .before .before .before .before .args .t2) 0) (at (c .before .before .before .before .before .before .args .t2) 1) (c .before .before .before .before .before .before .args .u) 0 3 1)
+xs : (c : tie.After-lines2 Inv-loop μ-loop) → c .before .before .before .lines .result ≡ table 9 (lineNodes (c .before .before .before .before .before .before .args .v .now) (at (c .before .before .before .before .before .before .args .c .now) 0) (at (c .before .before .before .before .before .before .args .c .now) 1) (c .before .before .before .before .before .before .args .u .now) 0 3 1)
 xs c =
     let b = c .before .before .before .before .before .before in
     let h = b .pre .1 .0 in
-    c .before .before .before .lines .ensures ∙ ap₂ (λ x y. table 9 (lineNodes (b .args .v) x y (b .args .u) 0 3 1)) (back-is w64 _ (h .all 0) tt) (back-is w64 _ (h .all 1) tt)
+    c .before .before .before .lines .ensures ∙ ap₂ (λ x y. table 9 (lineNodes (b .args .v .now) x y (b .args .u .now) 0 3 1)) (back-is w64 _ (h .all 0) tt) (back-is w64 _ (h .all 1) tt)
 
-ys : (c : tie.After-lines2 Inv-loop μ-loop) → c .lines2 .result ≡ table 9 (lineNodes (c .before .before .before .before .before .before .args .v) (at (c .before .before .before .before .before .before .args .t2) 2) (at (c .before .before .before .before .before .before .args .t2) 3) (c .before .before .before .before .before .before .args .u) 6 1 3)
+ys : (c : tie.After-lines2 Inv-loop μ-loop) → c .lines2 .result ≡ table 9 (lineNodes (c .before .before .before .before .before .before .args .v .now) (at (c .before .before .before .before .before .before .args .c .now) 2) (at (c .before .before .before .before .before .before .args .c .now) 3) (c .before .before .before .before .before .before .args .u .now) 6 1 3)
 ys c =
     let b = c .before .before .before .before .before .before in
     let h = b .pre .1 .0 in
-    c .lines2 .ensures ∙ ap₂ (λ x y. table 9 (lineNodes (b .args .v) x y (b .args .u) 6 1 3)) (back-is w64 _ (h .all 2) tt) (back-is w64 _ (h .all 3) tt)
+    c .lines2 .ensures ∙ ap₂ (λ x y. table 9 (lineNodes (b .args .v .now) x y (b .args .u .now) 6 1 3)) (back-is w64 _ (h .all 2) tt) (back-is w64 _ (h .all 3) tt)
 
 -- and their sizes
 small : (c : tie.After-lines2 Inv-loop μ-loop) → AllWithin 194969600000000 (c .before .before .before .lines .result) × AllWithin 194969600000000 (c .lines2 .result)
 small c =
     let b = c .before .before .before .before .before .before in
     let h = b .pre in (
-      subst (λ l. AllWithin 194969600000000 l) (sym (xs c)) (nodes-within (b .args .v) _ _ (b .args .u) 0 3 1 (h .0) (h .1 .0 .all 0) (h .1 .0 .all 1) (h .1 .1)),
-      subst (λ l. AllWithin 194969600000000 l) (sym (ys c)) (nodes-within (b .args .v) _ _ (b .args .u) 6 1 3 (h .0) (h .1 .0 .all 2) (h .1 .0 .all 3) (h .1 .1)),
+      subst (λ l. AllWithin 194969600000000 l) (sym (xs c)) (nodes-within (b .args .v .now) _ _ (b .args .u .now) 0 3 1 (h .0) (h .1 .0 .all 0) (h .1 .0 .all 1) (h .1 .1)),
+      subst (λ l. AllWithin 194969600000000 l) (sym (ys c)) (nodes-within (b .args .v .now) _ _ (b .args .u .now) 6 1 3 (h .0) (h .1 .0 .all 2) (h .1 .0 .all 3) (h .1 .1)),
     )
 
 loop-holds : tie.Need-loop-holds Inv-loop μ-loop
@@ -140,7 +140,7 @@ returns c =
     let g = c .before .before in
     let a = g .before .before .before .before .before .before .args in
     let e : c .before .loop .k ≡ 9 = omega arith in
-    (rw e at (c .before .loop .inv .2)) ∙ append-nil _ ∙ ap₂ (λ x y. table 9 (combined x y)) (xs g) (ys g) ∙ all-combined (a .v) (a .t2) (a .u)
+    (rw e at (c .before .loop .inv .2)) ∙ append-nil _ ∙ ap₂ (λ x y. table 9 (combined x y)) (xs g) (ys g) ∙ all-combined (a .v .now) (a .c .now) (a .u .now)
 
 pub tendencies-spec : {M : Type 1} → statement M
-tendencies-spec = tie.close (tie.spec Inv-loop μ-loop array-copy-out-lines array-copy-out-lines-2 lines-requires array-copy-out-lines-3 array-copy-out-lines-4 lines-requires-2 loop-holds mul-t array-copy-out-t mul-t-2 array-copy-out-t-2 mul-t-3 mul-t-4 array-copy-out-t-3 mul-t-5 add-t mul-t-6 array-copy-out-t-4 mul-t-7 add-t-2 mul-t-8 array-read-t cast-t shr-t mul-t-9 array-set-from-t add-k loop-less loop-again returns)
+tendencies-spec = tie.close (tie.spec Inv-loop μ-loop element-copy-out-lines element-copy-out-lines-2 lines-requires element-copy-out-lines-3 element-copy-out-lines-4 lines-requires-2 loop-holds mul-t array-copy-out-t mul-t-2 array-copy-out-t-2 mul-t-3 mul-t-4 array-copy-out-t-3 mul-t-5 add-t mul-t-6 array-copy-out-t-4 mul-t-7 add-t-2 mul-t-8 array-read-t cast-t shr-t mul-t-9 array-set-from-t add-k loop-less loop-again returns)

@@ -16,10 +16,10 @@ use Rattle.upwind.proofs.starts.Statement.{statement}
 use Rattle.upwind.proofs.starts.Tie as tie
 
 abbrev Inv-loop : tie.InvT-loop
-Inv-loop e c west east south north behind ahead s₀ side₀ s side = (side ≤ 4) × (length s ≡ 4) × (s ≡ table side (λ i. upwindStart (at c i) (getD behind i 0) (getD ahead i 0) (getD lasts i 0)) ++ drop side s₀)
+Inv-loop c e west east south north behind ahead s₀ side₀ s side = (side ≤ 4) × (length s ≡ 4) × (s ≡ table side (λ i. upwindStart (at c i) (getD behind i 0) (getD ahead i 0) (getD lasts i 0)) ++ drop side s₀)
 
 abbrev μ-loop : tie.MeasureT-loop
-μ-loop e c west east south north behind ahead s₀ side₀ s side = 4 - side
+μ-loop c e west east south north behind ahead s₀ side₀ s side = 4 - side
 
 west-requires : tie.Need-west-requires Inv-loop μ-loop
 west-requires c κs = c .pre
@@ -47,8 +47,8 @@ ahead-is c = λ i. c .before .before .before .before .args .e ∷ c .before .bef
 mul-upwind-start : tie.Need-mul-upwind-start Inv-loop μ-loop
 mul-upwind-start c = search needs
 
-array-copy-out-upwind-start : tie.Need-array-copy-out-upwind-start Inv-loop μ-loop
-array-copy-out-upwind-start c = search needs
+element-copy-out-upwind-start : tie.Need-element-copy-out-upwind-start Inv-loop μ-loop
+element-copy-out-upwind-start c = search needs
 
 mul-upwind-start-2 : tie.Need-mul-upwind-start-2 Inv-loop μ-loop
 mul-upwind-start-2 c = search needs
@@ -108,7 +108,7 @@ returns c =
     let n = c .before .before in
     let a = n .before .before .before .before .args in
     let e : c .before .loop .side ≡ 4 = omega arith in
-    (rw e at (c .before .loop .inv .2)) ∙ append-nil _ ∙ (λ i. table 4 (λ s. upwindStart (at (a .t1) s) (getD (behind-is n i) s 0) (getD (ahead-is n i) s 0) (getD lasts s 0)))
+    (rw e at (c .before .loop .inv .2)) ∙ append-nil _ ∙ (λ i. table 4 (λ s. upwindStart (at (a .c .now) s) (getD (behind-is n i) s 0) (getD (ahead-is n i) s 0) (getD lasts s 0)))
 
 pub starts-spec : {M : Type 1} → statement M
-starts-spec = tie.close (tie.spec Inv-loop μ-loop west-requires east-requires south-requires north-requires loop-holds mul-upwind-start array-copy-out-upwind-start mul-upwind-start-2 array-read-upwind-start mul-upwind-start-3 array-read-upwind-start-2 mul-upwind-start-4 array-read-upwind-start-3 upwind-start-requires mul-s array-write-s add-side loop-less loop-again returns)
+starts-spec = tie.close (tie.spec Inv-loop μ-loop west-requires east-requires south-requires north-requires loop-holds mul-upwind-start element-copy-out-upwind-start mul-upwind-start-2 array-read-upwind-start mul-upwind-start-3 array-read-upwind-start-2 mul-upwind-start-4 array-read-upwind-start-3 upwind-start-requires mul-s array-write-s add-side loop-less loop-again returns)

@@ -24,30 +24,30 @@ loop-holds c = (omega arith, refl, refl)
 mul-place : tie.Need-mul-place Inv-loop μ-loop
 mul-place c = search needs
 
-array-read-place : tie.Need-array-read-place Inv-loop μ-loop
-array-read-place c = search needs
+element-copy-out-place : tie.Need-element-copy-out-place Inv-loop μ-loop
+element-copy-out-place c = search needs
 
 mul-place-2 : tie.Need-mul-place-2 Inv-loop μ-loop
 mul-place-2 c = search needs
 
-array-read-place-2 : tie.Need-array-read-place-2 Inv-loop μ-loop
-array-read-place-2 c = search needs
+array-read-place : tie.Need-array-read-place Inv-loop μ-loop
+array-read-place c = search needs
 
 -- what a turn reads is within the stage
-reach : (c : tie.In-loop Inv-loop μ-loop) → upwindPlace (c .before .before .args .t2) (c .before .loop .m) < length (c .before .before .args .phi .now)
+reach : (c : tie.In-loop Inv-loop μ-loop) → upwindPlace (c .before .before .args .starts .now) (c .before .loop .m) < length (c .before .before .args .phi .now)
 reach c = c .before .before .pre .reach (c .before .loop .m) (omega arith)
 
 mul-place-3 : tie.Need-mul-place-3 Inv-loop μ-loop
-mul-place-3 c = record { fits = omega (arith, reach c) }
+mul-place-3 c = record { fits = omega (arith, reach (c .before)) }
 
 add-place : tie.Need-add-place Inv-loop μ-loop
-add-place c = record { fits = omega (arith, reach c) }
+add-place c = record { fits = omega (arith, reach (c .before)) }
 
 mul-u : tie.Need-mul-u Inv-loop μ-loop
-mul-u c = record { fits = omega (arith, reach c) }
+mul-u c = record { fits = omega (arith, reach (c .before)) }
 
 shared-slice-copy-out-u : tie.Need-shared-slice-copy-out-u Inv-loop μ-loop
-shared-slice-copy-out-u c = reach c
+shared-slice-copy-out-u c = reach (c .before)
 
 mul-u-2 : tie.Need-mul-u-2 Inv-loop μ-loop
 mul-u-2 c = search needs
@@ -63,12 +63,12 @@ loop-less c = search needs
 
 loop-again : tie.Need-loop-again Inv-loop μ-loop
 loop-again c =
-    let l = c .before .before .loop in
-    let a = c .before .before .before .args in
-    (omega arith, rw length-set (l .inv .1), fill-next (l .m) (λ i. at (a .phi .now) (upwindPlace (a .t2) i)) _ _ _ (l .inv .2) (omega arith) (toZ-ofZ (record { sfits = c .u .given })))
+    let l = c .before .before .before .loop in
+    let a = c .before .before .before .before .args in
+    (omega arith, rw length-set (l .inv .1), fill-next (l .m) (λ i. at (a .phi .now) (upwindPlace (a .starts .now) i)) _ _ _ (l .inv .2) (omega arith) (toZ-ofZ (record { sfits = c .u .given })))
 
 returns : tie.Need-returns Inv-loop μ-loop
 returns c = let e : c .before .loop .m ≡ 12 = omega arith in (rw e at (c .before .loop .inv .2)) ∙ append-nil _
 
 pub upwind-values-spec : {M : Type 1} → statement M
-upwind-values-spec = tie.close (tie.spec Inv-loop μ-loop loop-holds mul-place array-read-place mul-place-2 array-read-place-2 mul-place-3 add-place mul-u shared-slice-copy-out-u mul-u-2 array-set-from-u add-m loop-less loop-again returns)
+upwind-values-spec = tie.close (tie.spec Inv-loop μ-loop loop-holds mul-place element-copy-out-place mul-place-2 array-read-place mul-place-3 add-place mul-u shared-slice-copy-out-u mul-u-2 array-set-from-u add-m loop-less loop-again returns)
