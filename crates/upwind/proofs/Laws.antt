@@ -2,8 +2,11 @@
 use mathlib.Core.Path.{_≡_, refl, sym, ap, _∙_}
 use mathlib.Core.Bool.{Bool, true, false, cond}
 use mathlib.Core.List.{List, [], _∷_}
-use Prim.Native.Nat.{ℕ, zero, suc, _+_, _*_, _/_, _%_, _≤_, _<_}
+use Prim.Native.Nat.{ℕ, zero, suc, _+_, _*_, _-_, _/_, _%_, _≤_, _<_}
 use native.Mathlib.Omega.{arith}
+use lib.Dec.{eqb, eqb→eq}
+use Rattle.whole.specs.Sum.{all}
+use Rattle.whole.proofs.SumLaws.{all-at}
 use lib.IntN.{ℤ, pos, negsuc}
 use lib.ListN.{length, getD}
 use lib.Signed.{nonNeg, leZ}
@@ -12,7 +15,7 @@ use Rattle.rules.specs.declared.Shape.{Shape}
 use Rattle.rules.specs.Field.{elements}
 use Rattle.rules.specs.Grid.{west, east, south, north}
 use Rattle.grid.specs.Place.{Fine, Placed}
-use Rattle.upwind.specs.Upwind.{at, behinds, aheads, lasts, upwindStart, sideStart, upwindPlace, Reached}
+use Rattle.upwind.specs.Upwind.{at, behinds, aheads, lasts, strides, upwindStart, sideStart, upwindPlace, Reached}
 use Rattle.rules.proofs.GridLaws.{west-lt, east-lt, south-lt, north-lt}
 
 -- ---- the sign of a wind
@@ -53,3 +56,8 @@ last-lt (suc zero) = omega arith
 last-lt (suc (suc zero)) = omega arith
 last-lt (suc (suc (suc zero))) = omega arith
 last-lt (suc (suc (suc (suc s)))) = omega arith
+
+-- the step along a line, as the code computes it
+pub stride-is : (m : ℕ) → m < 12 → 3 - 2 * (m / 6) ≡ getD strides (m / 3) 0
+unfolding all
+stride-is m h = eqb→eq (3 - 2 * (m / 6)) (getD strides (m / 3) 0) (all-at 12 (λ m. eqb (3 - 2 * (m / 6)) (getD strides (m / 3) 0)) tt m h)

@@ -14,11 +14,8 @@ ghost use Rattle.grid.specs.Place.{Placed};
 ghost use Rattle.upwind.specs.Upwind.{at, asStage, Calm, sideWinds, upwindStart, sideStart, upwindPlace, Reached};
 use rules::Shape;
 
-// Where an upwind line begins in the element behind an east or a north face, and how it goes on: the lines of the west, the east,
-// the south and the north side.
+// Where an upwind line begins in the element behind a face: the lines of the west, the east, the south and the north side.
 const LAST: [usize; 4] = [2, 2, 6, 6];
-
-const STRIDES: [usize; 4] = [3, 3, 1, 1];
 
 // The winds of an element's west, east, south and north face.
 fn side_winds(wind: &[i16], shape: Shape, e: usize) -> [i64; 4]
@@ -66,7 +63,8 @@ fn starts(c: &[i64; 4], shape: Shape, e: usize) -> [usize; 4]
     s
 }
 
-// The upwind values of the four sides, three of each.
+// The upwind values of the four sides, three of each. A line goes on by 3 at the west and the east side, by 1 at the others; a table
+// of these steps would be laid on the stack at every turn.
 fn upwind_values(phi: &[i64], starts: &[usize; 4]) -> [i64; 12]
     requires { ⌜ Reached (now starts) (now phi) ⌝ }
     ensures { λ r. ⌜ r ≡ table 12 (λ m. at (now (phi .entry)) (upwindPlace (now (starts .entry)) m)) ⌝ }
@@ -74,7 +72,7 @@ fn upwind_values(phi: &[i64], starts: &[usize; 4]) -> [i64; 12]
     let mut u = [0i64; 12];
     for m in 0..12 {
         let side = m / 3;
-        let place = starts[side] + STRIDES[side] * (m % 3);
+        let place = starts[side] + (3 - 2 * (m / 6)) * (m % 3);
         u[m] = phi[place];
     }
     u

@@ -1,13 +1,14 @@
-use mathlib.Core.Path.{_≡_, refl, _∙_}
+use mathlib.Core.Path.{_≡_, refl, sym, ap, subst, _∙_}
 use mathlib.Core.List.{_++_, append-nil}
-use Prim.Native.Nat.{_≤_, _<_, _-_, _+_, _*_, _/_, _%_}
+use Prim.Native.Nat.{ℕ, _≤_, _<_, _-_, _+_, _*_, _/_, _%_}
 use borrow.Author.Needs.{needs}
 use native.Mathlib.Omega.{arith}
 use lib.ListN.{length, getD, drop, length-set}
 use mir.Facts.{toZ-ofZ}
 use Rattle.whole.specs.Table.{table}
 use Rattle.whole.proofs.TableLaws.{fill-next}
-use Rattle.upwind.specs.Upwind.{at, strides, upwindPlace}
+use Rattle.upwind.specs.Upwind.{at, upwindPlace}
+use Rattle.upwind.proofs.Laws.{stride-is}
 use Rattle.upwind.proofs.upwind_values.Statement.{statement}
 use Rattle.upwind.proofs.upwind_values.Tie as tie
 
@@ -30,12 +31,15 @@ element-copy-out-place c = search needs
 mul-place-2 : tie.Need-mul-place-2 Inv-loop μ-loop
 mul-place-2 c = search needs
 
-array-read-place : tie.Need-array-read-place Inv-loop μ-loop
-array-read-place c = search needs
+sub-place : tie.Need-sub-place Inv-loop μ-loop
+sub-place c = search needs
 
 -- what a turn reads is within the stage
-reach : (c : tie.In-loop Inv-loop μ-loop) → upwindPlace (c .before .before .args .starts .now) (c .before .loop .m) < length (c .before .before .args .phi .now)
-reach c = c .before .before .pre .reach (c .before .loop .m) (omega arith)
+place-is : (c : tie.In-loop Inv-loop μ-loop) → getD (c .before .before .args .starts .now) (c .before .loop .m / 3) 0 + (3 - 2 * (c .before .loop .m / 6)) * (c .before .loop .m % 3) ≡ upwindPlace (c .before .before .args .starts .now) (c .before .loop .m)
+place-is c = let m = c .before .loop .m in ap (λ n. getD (c .before .before .args .starts .now) (m / 3) 0 + n * (m % 3)) (stride-is m (omega arith))
+
+reach : (c : tie.In-loop Inv-loop μ-loop) → getD (c .before .before .args .starts .now) (c .before .loop .m / 3) 0 + (3 - 2 * (c .before .loop .m / 6)) * (c .before .loop .m % 3) < length (c .before .before .args .phi .now)
+reach c = subst (λ (n : ℕ). n < length (c .before .before .args .phi .now)) (sym (place-is c)) (c .before .before .pre .reach (c .before .loop .m) (omega arith))
 
 mul-place-3 : tie.Need-mul-place-3 Inv-loop μ-loop
 mul-place-3 c = record { fits = omega (arith, reach (c .before)) }
@@ -65,10 +69,10 @@ loop-again : tie.Need-loop-again Inv-loop μ-loop
 loop-again c =
     let l = c .before .before .before .loop in
     let a = c .before .before .before .before .args in
-    (omega arith, rw length-set (l .inv .1), fill-next (l .m) (λ i. at (a .phi .now) (upwindPlace (a .starts .now) i)) _ _ _ (l .inv .2) (omega arith) (toZ-ofZ (record { sfits = c .u .given })))
+    (omega arith, rw length-set (l .inv .1), fill-next (l .m) (λ i. at (a .phi .now) (upwindPlace (a .starts .now) i)) _ _ _ (l .inv .2) (omega arith) (toZ-ofZ (record { sfits = c .u .given }) ∙ ap (at (a .phi .now)) (place-is (c .before .before))))
 
 returns : tie.Need-returns Inv-loop μ-loop
 returns c = let e : c .before .loop .m ≡ 12 = omega arith in (rw e at (c .before .loop .inv .2)) ∙ append-nil _
 
 pub upwind-values-spec : {M : Type 1} → statement M
-upwind-values-spec = tie.close (tie.spec Inv-loop μ-loop loop-holds mul-place element-copy-out-place mul-place-2 array-read-place mul-place-3 add-place mul-u shared-slice-copy-out-u mul-u-2 array-set-from-u add-m loop-less loop-again returns)
+upwind-values-spec = tie.close (tie.spec Inv-loop μ-loop loop-holds mul-place element-copy-out-place mul-place-2 sub-place mul-place-3 add-place mul-u shared-slice-copy-out-u mul-u-2 array-set-from-u add-m loop-less loop-again returns)
