@@ -11,7 +11,7 @@ ghost use Rattle.rules.specs.Field.{elements};
 ghost use Rattle.rules.specs.Calls.{windAt};
 ghost use Rattle.grid.specs.Place.{Fine};
 ghost use Rattle.upwind.specs.Upwind.{Calm};
-ghost use Rattle.stages.specs.Advance.{section, divisor, Element, elementSums, elementValues, storedValue, Ready, gridSums, gridValues};
+ghost use Rattle.stages.specs.Advance.{section, factor, divisor, Element, elementSums, elementValues, storedValue, Ready, gridSums, gridValues};
 use rules::Shape;
 
 // How often a stage's tendency counts in the sum of tendencies.
@@ -32,15 +32,24 @@ fn divided(stage: usize, sum: i64) -> i64
     whole::floor_div(sum, 6)
 }
 
-// One element: its sums with the tendencies t, and from them its values of the next stage.
-fn advance_element(work: &mut [i64], from: usize, to: usize, sums: usize, stage: usize, t: [i64; 9])
+// One element: its sums with `times` the tendencies t, and from them its values of the next stage.
+fn advance_element(
+    work: &mut [i64],
+    from: usize,
+    to: usize,
+    sums: usize,
+    stage: usize,
+    times: i64,
+    t: &[i64; 9],
+)
     requires { ⌜ Element (now work) from to sums stage ⌝ }
-    requires { ⌜ AllWithin 11900000000 t ⌝ }
-    ensures { λ _. ⌜ Written to sums 9 (elementValues stage from sums t (now (work .entry))) (elementSums stage sums t (now (work .entry))) (now (work .entry)) (now (work .exit)) ⌝ }
+    requires { ⌜ times ≡ pos (factor stage) ⌝ }
+    requires { ⌜ AllWithin 11900000000 (now t) ⌝ }
+    ensures { λ _. ⌜ Written to sums 9 (elementValues stage from sums (now (t .entry)) (now (work .entry))) (elementSums stage sums (now (t .entry)) (now (work .entry))) (now (work .entry)) (now (work .exit)) ⌝ }
 {
     for k in 0..9 {
         let value = work[from + k];
-        let sum = work[sums + k] + FACTORS[stage] * t[k];
+        let sum = work[sums + k] + times * t[k];
         work[sums + k] = sum;
         work[to + k] = value + divided(stage, sum);
     }
@@ -61,9 +70,10 @@ pub fn advance(work: &mut [i64], wind: &[i16], shape: Shape, stage: usize)
     let mut from = 0;
     let mut to = end;
     let mut sums = 4 * length;
+    let times = FACTORS[stage];
     for e in 0..n {
         let t = upwind::tendencies(&work[start..end], wind, shape, e);
-        advance_element(work, from, to, sums, stage, t);
+        advance_element(work, from, to, sums, stage, times, &t);
         from += 9;
         to += 9;
         sums += 9;

@@ -7,6 +7,7 @@ use native.Mathlib.Nat.{add-sub-cancel-left, mul-le-mul-right, suc-mul}
 use native.Mathlib.Numerals.{add-one}
 use lib.IntN.{ℤ, pos}
 use lib.ListN.{length, getD, take, drop}
+use mir.Facts.{toZ-ofZ}
 use Rattle.whole.specs.Bound.{Within, AllWithin}
 use Rattle.whole.specs.Table.{table}
 use Rattle.whole.specs.Written.{Written}
@@ -20,15 +21,15 @@ use Rattle.grid.specs.Place.{Placed}
 use Rattle.grid.proofs.Laws.{elements-le}
 use Rattle.upwind.specs.Upwind.{at, asStage}
 use Rattle.stages.specs.Advance.{section, newSum, newValue, gridSums, gridValues}
-use Rattle.stages.proofs.Laws.{flat, three-sections, tendencies-small}
+use Rattle.stages.proofs.Laws.{flat, three-sections, factor-is, tendencies-small}
 use Rattle.stages.proofs.advance.Statement.{statement}
 use Rattle.stages.proofs.advance.Tie as tie
 
 abbrev Inv-loop : tie.InvT-loop
-Inv-loop work₀ wind shape stage n length start end from₀ to₀ sums₀ e₀ work from to sums e = (e ≤ n) × (from ≡ e * 9) × (to ≡ end + e * 9) × (sums ≡ 4 * length + e * 9) × Written end (4 * length) (e * 9) (gridValues shape (windAt wind) stage work₀) (gridSums shape (windAt wind) stage work₀) work₀ work
+Inv-loop work₀ wind shape stage n length start end from₀ to₀ sums₀ times e₀ work from to sums e = (e ≤ n) × (from ≡ e * 9) × (to ≡ end + e * 9) × (sums ≡ 4 * length + e * 9) × Written end (4 * length) (e * 9) (gridValues shape (windAt wind) stage work₀) (gridSums shape (windAt wind) stage work₀) work₀ work
 
 abbrev μ-loop : tie.MeasureT-loop
-μ-loop work₀ wind shape stage n length start end from₀ to₀ sums₀ e₀ work from to sums e = n - e
+μ-loop work₀ wind shape stage n length start end from₀ to₀ sums₀ times e₀ work from to sums e = n - e
 
 -- the sizes of a shape's sections, and that stage `stage` and the next one end before the sums
 small : (c : tie.After-struct-known Inv-loop μ-loop) → c .before .args .shape .nx * c .before .args .shape .ny ≤ 4096
@@ -52,11 +53,17 @@ add-end c = record { fits = omega (arith, small c, ends c) }
 mul-sums : tie.Need-mul-sums Inv-loop μ-loop
 mul-sums c = record { fits = omega (arith, small c) }
 
+mul-times : tie.Need-mul-times Inv-loop μ-loop
+mul-times c = search needs
+
+array-copy-out-times : tie.Need-array-copy-out-times Inv-loop μ-loop
+array-copy-out-times c = search needs
+
 loop-holds : tie.Need-loop-holds Inv-loop μ-loop
 loop-holds c = (omega arith, omega arith, omega arith, omega arith, written-none _ _ _ _ _)
 
 mul-tendencies : tie.Need-mul-tendencies Inv-loop μ-loop
-mul-tendencies c = record { fits = omega (arith, small (c .before .before), ends (c .before .before)) }
+mul-tendencies c = record { fits = omega (arith, small (c .before .before .before), ends (c .before .before .before)) }
 
 sub-tendencies : tie.Need-sub-tendencies Inv-loop μ-loop
 sub-tendencies c = search needs
@@ -65,58 +72,58 @@ part-tendencies-start : tie.Need-part-tendencies-start Inv-loop μ-loop
 part-tendencies-start c = search needs
 
 part-tendencies-end : tie.Need-part-tendencies-end Inv-loop μ-loop
-part-tendencies-end c = let g = c .before .before .before in omega (arith, ends g, c .before .before .loop .inv .4 .long, g .before .pre .1 .1 .1 .long)
+part-tendencies-end c = let g = c .before .before .before .before in omega (arith, ends g, c .before .before .loop .inv .4 .long, g .before .pre .1 .1 .1 .long)
 
 -- the stage that is read is as it was
 lent : (c : tie.In-loop Inv-loop μ-loop) →
-    take (c .before .before .before .args .stage * section (c .before .before .before .args .shape) + section (c .before .before .before .args .shape) - c .before .before .before .args .stage * section (c .before .before .before .args .shape)) (drop (c .before .before .before .args .stage * section (c .before .before .before .args .shape)) (c .before .loop .work))
-    ≡ take (section (c .before .before .before .args .shape)) (drop (c .before .before .before .args .stage * section (c .before .before .before .args .shape)) (c .before .before .before .args .work .now))
+    take (c .before .before .before .before .args .stage * section (c .before .before .before .before .args .shape) + section (c .before .before .before .before .args .shape) - c .before .before .before .before .args .stage * section (c .before .before .before .before .args .shape)) (drop (c .before .before .before .before .args .stage * section (c .before .before .before .before .args .shape)) (c .before .loop .work))
+    ≡ take (section (c .before .before .before .before .args .shape)) (drop (c .before .before .before .before .args .stage * section (c .before .before .before .before .args .shape)) (c .before .before .before .before .args .work .now))
 lent c =
-    let b = c .before .before .before in
+    let b = c .before .before .before .before in
     let l = section (b .args .shape) in
     let s = b .args .stage * l in
-    let h = ends (c .before .before) in
+    let h = ends (c .before .before .before) in
     part-kept s l (s + l - s) (c .before .loop .inv .4) (add-sub-cancel-left s l) (omega (arith, h, b .pre .1 .1 .1 .long)) (λ i p q u v. omega arith) (λ i p q u v. omega (arith, h))
 
-placed : (c : tie.In-loop Inv-loop μ-loop) → Placed (c .before .before .before .args .shape) (c .before .loop .e)
-placed c = record { fine = c .before .before .before .pre .0; inside = omega arith }
+placed : (c : tie.In-loop Inv-loop μ-loop) → Placed (c .before .before .before .before .args .shape) (c .before .loop .e)
+placed c = record { fine = c .before .before .before .before .pre .0; inside = omega arith }
 
 tendencies-requires : tie.Need-tendencies-requires Inv-loop μ-loop
 tendencies-requires c κs =
     let i = c .before .before in
-    let b = i .before .before .before in
+    let b = i .before .before .before .before in
     let l = section (b .args .shape) in
     let s = b .args .stage * l in (
       placed i,
       (
-        part-size l s (s + l - s) (i .before .loop .work) (add-sub-cancel-left s l) (omega (arith, ends (i .before .before), i .before .loop .inv .4 .long, b .pre .1 .1 .1 .long)),
+        part-size l s (s + l - s) (i .before .loop .work) (add-sub-cancel-left s l) (omega (arith, ends (i .before .before .before), i .before .loop .inv .4 .long, b .pre .1 .1 .1 .long)),
         (subst (AllWithin 1700000000) (sym (lent i)) (b .pre .1 .1 .1 .stage), b .pre .1 .0),
       ),
     )
 
 -- what an element's turn reads is as it was
-read-values : (c : tie.In-loop Inv-loop μ-loop) (k : ℕ) → k < 9 → at (c .before .loop .work) (c .before .loop .from + k) ≡ at (c .before .before .before .args .work .now) (c .before .loop .e * 9 + k)
+read-values : (c : tie.In-loop Inv-loop μ-loop) (k : ℕ) → k < 9 → at (c .before .loop .work) (c .before .loop .from + k) ≡ at (c .before .before .before .before .args .work .now) (c .before .loop .e * 9 + k)
 read-values c k h =
     let l = c .before .loop in
     ap (λ i. at (l .work) (i + k)) (l .inv .1) ∙ l .inv .4 .kept _ (λ p q. omega arith) (λ p q. omega arith)
 
-read-sums : (c : tie.In-loop Inv-loop μ-loop) (k : ℕ) → k < 9 → at (c .before .loop .work) (c .before .loop .sums + k) ≡ at (c .before .before .before .args .work .now) (4 * section (c .before .before .before .args .shape) + (c .before .loop .e * 9 + k))
+read-sums : (c : tie.In-loop Inv-loop μ-loop) (k : ℕ) → k < 9 → at (c .before .loop .work) (c .before .loop .sums + k) ≡ at (c .before .before .before .before .args .work .now) (4 * section (c .before .before .before .before .args .shape) + (c .before .loop .e * 9 + k))
 read-sums c k h =
     let l = c .before .loop in
-    ap (at (l .work)) (omega (arith, l .inv .3)) ∙ l .inv .4 .kept _ (λ p q. omega (arith, ends (c .before .before))) (λ p q. omega arith)
+    ap (at (l .work)) (omega (arith, l .inv .3)) ∙ l .inv .4 .kept _ (λ p q. omega (arith, ends (c .before .before .before))) (λ p q. omega arith)
 
 -- the tendencies that were made
-made : (c : tie.After-tendencies Inv-loop μ-loop) → c .tendencies .result ≡ table 9 (tendency quadratic (c .before .before .before .before .before .before .args .shape) (windAt (c .before .before .before .before .before .before .args .wind .now)) (asStage (take (section (c .before .before .before .before .before .before .args .shape)) (drop (c .before .before .before .before .before .before .args .stage * section (c .before .before .before .before .before .before .args .shape)) (c .before .before .before .before .before .before .args .work .now)))) (c .before .before .before .before .loop .e))
+made : (c : tie.After-tendencies Inv-loop μ-loop) → c .tendencies .result ≡ table 9 (tendency quadratic (c .before .before .before .before .before .before .before .args .shape) (windAt (c .before .before .before .before .before .before .before .args .wind .now)) (asStage (take (section (c .before .before .before .before .before .before .before .args .shape)) (drop (c .before .before .before .before .before .before .before .args .stage * section (c .before .before .before .before .before .before .before .args .shape)) (c .before .before .before .before .before .before .before .args .work .now)))) (c .before .before .before .before .loop .e))
 made c =
-    let a = c .before .before .before .before .before .before .args in
+    let a = c .before .before .before .before .before .before .before .args in
     c .tendencies .ensures ∙ ap (λ l. table 9 (tendency quadratic (a .shape) (windAt (a .wind .now)) (asStage l) (c .before .before .before .before .loop .e))) (lent (c .before .before .before))
 
 advance-element-requires : tie.Need-advance-element-requires Inv-loop μ-loop
 advance-element-requires c κs =
-    let i = c .before .before .before .before in
-    let b = i .before .before .before in
+    let i = c .before .before .before .before .before in
+    let b = i .before .before .before .before in
     let l = i .before .loop in
-    let h = ends (i .before .before) in
+    let h = ends (i .before .before .before) in
     let r = b .pre .1 .1 .1 in (
       record {
         stage = b .pre .1 .1 .0;
@@ -126,17 +133,17 @@ advance-element-requires c κs =
         values = λ k q. subst (Within 100000000) (sym (read-values i k q)) (r .values (l .e * 9 + k) (omega arith));
         small = λ k q. subst (Within 6300000000) (sym (read-sums i k q)) (r .small (l .e * 9 + k) (omega arith));
       },
-      subst (AllWithin 11900000000) (sym (made (c .before))) (tendencies-small (b .args .shape) (b .args .wind .now) _ (l .e) (placed i) (b .pre .1 .0) (r .stage)),
+      (toZ-ofZ (record { sfits = i .before .before .times .given }) ∙ factor-is (b .args .stage), subst (AllWithin 11900000000) (sym (made (c .before .before))) (tendencies-small (b .args .shape) (b .args .wind .now) _ (l .e) (placed i) (b .pre .1 .0) (r .stage))),
     )
 
 add-from : tie.Need-add-from Inv-loop μ-loop
 add-from c = search needs
 
 add-to : tie.Need-add-to Inv-loop μ-loop
-add-to c = let i = c .before .before .before .before .before .before in record { fits = omega (arith, small (i .before .before), ends (i .before .before), i .before .loop .inv .2) }
+add-to c = let i = c .before .before .before .before .before .before .before in record { fits = omega (arith, small (i .before .before .before), ends (i .before .before .before), i .before .loop .inv .2) }
 
 add-sums : tie.Need-add-sums Inv-loop μ-loop
-add-sums c = let i = c .before .before .before .before .before .before in record { fits = omega (arith, small (i .before .before), i .before .loop .inv .3) }
+add-sums c = let i = c .before .before .before .before .before .before .before in record { fits = omega (arith, small (i .before .before .before), i .before .loop .inv .3) }
 
 add-e : tie.Need-add-e Inv-loop μ-loop
 add-e c = search needs
@@ -146,9 +153,9 @@ loop-less c = search needs
 
 loop-again : tie.Need-loop-again Inv-loop μ-loop
 loop-again c =
-    let d = c .before .before .before in
+    let d = c .before .before .before .before in
     let i = d .before .before .before in
-    let b = i .before .before .before in
+    let b = i .before .before .before .before in
     let l = i .before .loop in
     let g = b .args .shape in
     let m = b .args .stage in
@@ -163,7 +170,7 @@ loop-again c =
       omega (arith, l .inv .1),
       omega (arith, l .inv .2),
       omega (arith, l .inv .3),
-      written-turn (gridValues g f m w) (gridSums g f m w) 9 _ _ ((l .e + 1) * 9) (l .inv .2) (l .inv .3) (omega arith) (omega (arith, ends (i .before .before))) (l .inv .4) (c .before .advance-element .ensures)
+      written-turn (gridValues g f m w) (gridSums g f m w) 9 _ _ ((l .e + 1) * 9) (l .inv .2) (l .inv .3) (omega arith) (omega (arith, ends (i .before .before .before))) (l .inv .4) (c .before .advance-element .ensures)
           (λ k h. ap₂ (newValue m) (read-values i k h) (sum-is k h)) sum-is,
     )
 
@@ -172,8 +179,8 @@ same-length c = c .before .loop .inv .4 .long
 
 returns : tie.Need-returns Inv-loop μ-loop
 returns c =
-    let b = c .before .before .before in
+    let b = c .before .before .before .before in
     written-moved _ _ _ (sym (rw (add-one (b .args .stage)) (suc-mul (b .args .stage) (section (b .args .shape))))) refl (omega arith) (c .before .loop .inv .4)
 
 pub advance-spec : {M : Type 1} → statement M
-advance-spec = tie.close (tie.spec Inv-loop μ-loop mul-n mul-length mul-start add-end mul-sums loop-holds mul-tendencies sub-tendencies part-tendencies-start part-tendencies-end tendencies-requires advance-element-requires add-from add-to add-sums add-e loop-less loop-again same-length returns)
+advance-spec = tie.close (tie.spec Inv-loop μ-loop mul-n mul-length mul-start add-end mul-sums mul-times array-copy-out-times loop-holds mul-tendencies sub-tendencies part-tendencies-start part-tendencies-end tendencies-requires advance-element-requires add-from add-to add-sums add-e loop-less loop-again same-length returns)

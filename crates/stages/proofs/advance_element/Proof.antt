@@ -11,7 +11,7 @@ use mir.Val.{toZ, ofZ}
 use Rattle.whole.specs.Bound.{Within, floorDiv}
 use Rattle.whole.specs.Written.{Written}
 use Rattle.whole.proofs.WrittenLaws.{written-none, written-next}
-use Rattle.whole.proofs.Sizes.{sizes, exacts, fits, within, exact, are-eq, are-at}
+use Rattle.whole.proofs.Sizes.{sizes, exacts, fits, within, exact, are-eq, are-at, peak-at}
 use Rattle.upwind.specs.Upwind.{at}
 use Rattle.stages.specs.Advance.{divisor, newSum, newValue, elementSums, elementValues}
 use Rattle.stages.proofs.Laws.{factors, factor-is}
@@ -19,10 +19,10 @@ use Rattle.stages.proofs.advance_element.Statement.{statement}
 use Rattle.stages.proofs.advance_element.Tie as tie
 
 abbrev Inv-loop : tie.InvT-loop
-Inv-loop work₀ from to sums stage t k₀ work k = (k ≤ 9) × Written to sums k (elementValues stage from sums t work₀) (elementSums stage sums t work₀) work₀ work
+Inv-loop work₀ from to sums stage times t k₀ work k = (k ≤ 9) × Written to sums k (elementValues stage from sums t work₀) (elementSums stage sums t work₀) work₀ work
 
 abbrev μ-loop : tie.MeasureT-loop
-μ-loop work₀ from to sums stage t k₀ work k = 9 - k
+μ-loop work₀ from to sums stage times t k₀ work k = 9 - k
 
 loop-holds : tie.Need-loop-holds Inv-loop μ-loop
 loop-holds c = (omega arith, written-none _ _ _ _ _)
@@ -62,54 +62,53 @@ slice-copy-out-sum : tie.Need-slice-copy-out-sum Inv-loop μ-loop
 slice-copy-out-sum c = omega (arith, room (c .before))
 
 mul-sum-2 : tie.Need-mul-sum-2 Inv-loop μ-loop
-mul-sum-2 c = record { fits = omega (arith, c .before .before .before .before .pre .0 .stage) }
+mul-sum-2 c = search needs
 
-array-copy-out-sum : tie.Need-array-copy-out-sum Inv-loop μ-loop
-array-copy-out-sum c = c .before .before .before .before .pre .0 .stage
+element-copy-out-sum : tie.Need-element-copy-out-sum Inv-loop μ-loop
+element-copy-out-sum c = search needs
+
+-- the factor is at most 4
+times-small : (c : tie.In-loop Inv-loop μ-loop) → Within 6 (c .before .before .args .times)
+times-small c = let b = c .before .before in subst (λ (z : ℤ). Within 6 z) (factor-is (b .args .stage) ∙ sym (b .pre .1 .0)) (record { within = peak-at factors (b .args .stage) })
 
 mul-sum-3 : tie.Need-mul-sum-3 Inv-loop μ-loop
-mul-sum-3 c = search needs
-
-array-copy-out-sum-2 : tie.Need-array-copy-out-sum-2 Inv-loop μ-loop
-array-copy-out-sum-2 c = search needs
-
-mul-sum-4 : tie.Need-mul-sum-4 Inv-loop μ-loop
-mul-sum-4 c = let h = c .before .before .before .before .before .before .pre .1 in fits (search sizes depth 20) tt
+mul-sum-3 c = let i = c .before .before .before in let h = i .before .before .pre .1 .1 in let f = times-small i in fits (search sizes depth 20) tt
 
 add-sum-2 : tie.Need-add-sum-2 Inv-loop μ-loop
-add-sum-2 c = let h = c .before .before .before .before .before .before .pre .1 in let s = sum-small (c .before .before .before .before) in fits (search sizes depth 20) tt
+add-sum-2 c = let i = c .before .before .before in let h = i .before .before .pre .1 .1 in let f = times-small i in let s = sum-small i in fits (search sizes depth 20) tt
 
 add-sum-3 : tie.Need-add-sum-3 Inv-loop μ-loop
 add-sum-3 c = search needs
 
-mul-sum-5 : tie.Need-mul-sum-5 Inv-loop μ-loop
-mul-sum-5 c = search needs
+mul-sum-4 : tie.Need-mul-sum-4 Inv-loop μ-loop
+mul-sum-4 c = search needs
 
 slice-set-from-sum : tie.Need-slice-set-from-sum Inv-loop μ-loop
 slice-set-from-sum c = search needs
 
 divided-requires : tie.Need-divided-requires Inv-loop μ-loop
 divided-requires c κs =
-    let b = c .before .before .before .before in
-    let h = b .before .before .pre .1 in
+    let b = c .before .before .before in
+    let h = b .before .before .pre .1 .1 in
+    let f = times-small b in
     let s = sum-small b in
     (b .before .before .pre .0 .stage, within (search sizes depth 20) tt)
 
 add-work : tie.Need-add-work Inv-loop μ-loop
 add-work c =
-    let b = c .before .before .before .before .before in
+    let b = c .before .before .before .before in
     let v = value-small b in
     let d = c .divided .ensures in
     fits (search sizes depth 20) tt
 
 add-t13 : tie.Need-add-t13 Inv-loop μ-loop
-add-t13 c = record { fits = omega (arith, room (c .before .before .before .before .before)) }
+add-t13 c = record { fits = omega (arith, room (c .before .before .before .before)) }
 
-mul-t22 : tie.Need-mul-t22 Inv-loop μ-loop
-mul-t22 c = record { fits = omega (arith, room (c .before .before .before .before .before)) }
+mul-t17 : tie.Need-mul-t17 Inv-loop μ-loop
+mul-t17 c = record { fits = omega (arith, room (c .before .before .before .before)) }
 
 slice-set-from-work : tie.Need-slice-set-from-work Inv-loop μ-loop
-slice-set-from-work c = rw length-set (omega (arith, room (c .before .before .before .before .before)))
+slice-set-from-work c = rw length-set (omega (arith, room (c .before .before .before .before)))
 
 add-k : tie.Need-add-k Inv-loop μ-loop
 add-k c = search needs
@@ -119,20 +118,22 @@ loop-less c = search needs
 
 loop-again : tie.Need-loop-again Inv-loop μ-loop
 loop-again c =
-    let b = c .before .before .before .before .before in
+    let b = c .before .before .before .before in
     let a = b .before .before .args in
     let l = b .before .loop in
-    let h = b .before .before .pre .1 in
+    let h = b .before .before .pre .1 .1 in
+    let f = times-small b in
     let m = a .stage in
     let w = a .work .now in
     let k = l .k in
     let s = sum-small b in
     let v = value-small b in
-    let sum = elementSums m (a .sums) (a .t6) w k in
-    let sum-of = ap₂ (λ x y. x +ℤ y *ℤ at (a .t6) k) (sum-is b) (factor-is m) in
-    let d = are-eq (are-at {z = toZ w64 (ofZ w64 (toZ w64 (ofZ w64 (at (l .work) (a .sums + k))) +ℤ toZ w64 (ofZ w64 (toZ w64 (ofZ w64 (getD factors m (pos 0))) *ℤ toZ w64 (ofZ w64 (at (a .t6) k))))))} (λ z. floorDiv z (divisor m)) (at (l .work) (a .sums + k) +ℤ getD factors m (pos 0) *ℤ at (a .t6) k) (c .divided .ensures) (search exacts depth 20) tt) (ap (λ z. floorDiv z (divisor m)) sum-of) in (
+    let t = a .t .now in
+    let sum = elementSums m (a .sums) t w k in
+    let sum-of = ap₂ (λ x y. x +ℤ y *ℤ at t k) (sum-is b) (b .before .before .pre .1 .0) in
+    let d = are-eq (are-at {z = toZ w64 (ofZ w64 (toZ w64 (ofZ w64 (at (l .work) (a .sums + k))) +ℤ toZ w64 (ofZ w64 (toZ w64 (ofZ w64 (a .times)) *ℤ toZ w64 (ofZ w64 (at t k))))))} (λ z. floorDiv z (divisor m)) (at (l .work) (a .sums + k) +ℤ a .times *ℤ at t k) (c .divided .ensures) (search exacts depth 20) tt) (ap (λ z. floorDiv z (divisor m)) sum-of) in (
       omega arith,
-      written-next (elementValues m (a .from) (a .sums) (a .t6) w) (elementSums m (a .sums) (a .t6) w) _ _ (omega (arith, room b)) (omega (arith, b .before .before .pre .0 .room)) (l .inv .1)
+      written-next (elementValues m (a .from) (a .sums) t w) (elementSums m (a .sums) t w) _ _ (omega (arith, room b)) (omega (arith, b .before .before .pre .0 .room)) (l .inv .1)
           (exact (search exacts depth 20) tt ∙ sum-of)
           (exact (search exacts depth 20) tt ∙ ap (λ x. x +ℤ floorDiv sum (divisor m)) (value-is b)),
     )
@@ -144,4 +145,4 @@ returns : tie.Need-returns Inv-loop μ-loop
 returns c = let e : c .before .loop .k ≡ 9 = omega arith in rw e at (c .before .loop .inv .1)
 
 pub advance-element-spec : {M : Type 1} → statement M
-advance-element-spec = tie.close (tie.spec Inv-loop μ-loop loop-holds add-value mul-value slice-copy-out-value add-sum mul-sum slice-copy-out-sum mul-sum-2 array-copy-out-sum mul-sum-3 array-copy-out-sum-2 mul-sum-4 add-sum-2 add-sum-3 mul-sum-5 slice-set-from-sum divided-requires add-work add-t13 mul-t22 slice-set-from-work add-k loop-less loop-again same-length returns)
+advance-element-spec = tie.close (tie.spec Inv-loop μ-loop loop-holds add-value mul-value slice-copy-out-value add-sum mul-sum slice-copy-out-sum mul-sum-2 element-copy-out-sum mul-sum-3 add-sum-2 add-sum-3 mul-sum-4 slice-set-from-sum divided-requires add-work add-t13 mul-t17 slice-set-from-work add-k loop-less loop-again same-length returns)
