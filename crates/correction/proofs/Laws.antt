@@ -1,13 +1,13 @@
 -- The parts of a flux, and its cut by one division toward zero.
-use mathlib.Core.Path.{_≡_, refl, sym, ap, ap₂, subst, _∙_}
-use mathlib.Core.Bool.{Bool, true, false, not, cond}
+use mathlib.Core.Path.{_≡_, refl, sym, ap, ap₂, _∙_}
+use mathlib.Core.Bool.{true, false}
 use Prim.Native.Nat.{ℕ, zero, suc, _+_, _*_, _/_, _≤_, _<_}
 use native.Mathlib.Nat.{mul-zero, mul-comm, mul-le-mul-left, zero-div, le-refl, le-trans, le-of-eq, le-of-lt, div-le-of-le-mul}
 use native.Mathlib.Omega.{arith}
 use borrow.Author.Tests.{le-leb, lt-leb, leb-true, leb-false}
 use lib.Dec.{leb, nleb→lt}
 use lib.IntN.{ℤ, pos, negsuc, negℤ, natAbs, _+ℤ_, _-ℤ_, _*ℤ_}
-use lib.Signed.{nonNeg, leZ, quotZ, _≤ℤ_, _<ℤ_}
+use lib.Signed.{leZ, quotZ, _≤ℤ_, _<ℤ_}
 use Rattle.whole.specs.Bound.{Within, Are}
 use mir.Syntax.{w64}
 use mir.Val.{toZ, ofZ}

@@ -3,7 +3,7 @@ use mathlib.Core.Bool.{cond}
 use mathlib.Core.List.{List}
 use Prim.Native.Nat.{ℕ, _+_, _*_, _≤_, _<_}
 use lib.IntN.{ℤ, pos}
-use lib.ListN.{length, getD, take, drop}
+use lib.ListN.{length, take, drop}
 use lib.Signed.{nonNeg, _≤ℤ_}
 use Rattle.whole.specs.Bound.{Within}
 use Rattle.whole.specs.Parts.{positive, negative}

@@ -14,7 +14,7 @@ ghost use Rattle.rules.specs.Field.{quadratic, elements, faces, mass};
 ghost use Rattle.rules.specs.Correction.{cut};
 ghost use Rattle.grid.specs.Place.{Fine, Placed};
 ghost use Rattle.upwind.specs.Upwind.{at};
-ghost use Rattle.correction.specs.Amounts.{NotNegative, Light, fluxesAt, massesAt, outflowsAt, localOutflow, lentFluxes, limitedFace, limitedEast, limitedNorth, Amounts};
+ghost use Rattle.correction.specs.Amounts.{NotNegative, Light, massesAt, outflowsAt, localOutflow, lentFluxes, limitedFace, limitedEast, limitedNorth, Amounts};
 use rules::Shape;
 
 // x where it is above 0, else 0.

@@ -1,11 +1,10 @@
 // Loops that fill a buffer from its front. Leaves: the buffer is long enough.
 ghost use mathlib.Core.Path.{_≡_};
-ghost use mathlib.Core.List.{_++_};
 ghost use Prim.Native.Nat.{_*_, _≤_};
 ghost use lib.IntN.{pos};
-ghost use lib.ListN.{length, replicate, getD, drop};
+ghost use lib.ListN.{length, replicate};
 ghost use Rattle.whole.specs.Sum.{sum};
-ghost use Rattle.whole.specs.Table.{table, blocks, overwrite};
+ghost use Rattle.whole.specs.Table.{blocks, overwrite};
 ghost use Rattle.rules.specs.Field.{quadratic, weighted};
 ghost use Rattle.rules.specs.Calls.{loadedValue, loadedElement};
 use super::element;

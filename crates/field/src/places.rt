@@ -1,7 +1,7 @@
 // Shapes, and where the numbers of a shape stand in its buffers. All but the tests are leaves, for an admitted shape.
 ghost use mathlib.Core.Path.{_≡_};
 ghost use Prim.Native.Nat.{_*_, _+_, _<_};
-ghost use Rattle.rules.specs.Field.{quadratic, from1to, admitted, elements, faces, element, onGrid, elementLength, tracerLength, fieldLength};
+ghost use Rattle.rules.specs.Field.{quadratic, from1to, admitted, elements, faces, onGrid, tracerLength, fieldLength};
 ghost use Rattle.rules.specs.Grid.{faceIndex};
 ghost use Rattle.rules.specs.Calls.{windInRange};
 ghost use Rattle.field.specs.Places.{Sized, Inside, elementStart};

@@ -1,19 +1,16 @@
 -- The fluxes that are made of work are document 01's G.
 use mathlib.Core.Path.{_≡_, refl, sym, ap, _∙_}
-use mathlib.Core.Bool.{not}
 use mathlib.Core.List.{List}
 use Prim.Native.Nat.{ℕ, _+_, _*_, _≤_, _<_}
 use native.Mathlib.Nat.{mul-le-mul-left}
 use native.Mathlib.Omega.{arith}
-use lib.Dec.{T}
 use lib.IntN.{ℤ, pos, _+ℤ_, _*ℤ_}
 use lib.ListN.{getD, take, drop}
-use Rattle.whole.specs.Sum.{sumℤ}
 use Rattle.whole.proofs.OverwriteLaws.{part-at}
 use Rattle.whole.proofs.SumLaws.{sumℤ-cong}
 use Rattle.rules.specs.declared.Shape.{Shape}
 use Rattle.rules.specs.Field.{quadratic, elements, faces, northFace}
-use Rattle.rules.specs.Grid.{east, north, looksEast, behind, ahead}
+use Rattle.rules.specs.Grid.{east, north}
 use Rattle.rules.specs.Stages.{upwind, faceSum, fluxOf, flux, Stages, stages}
 use Rattle.rules.proofs.GridLaws.{looks-east, looks-north, behind-east, ahead-east, behind-north, ahead-north, east-lt, north-lt}
 use Rattle.grid.specs.Place.{Fine}

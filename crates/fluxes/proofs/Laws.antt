@@ -5,7 +5,7 @@ use Prim.Native.Nat.{ℕ, zero, suc, _+_, _*_, _≤_, _<_}
 use native.Mathlib.Nat.{mul-le-mul-left}
 use native.Mathlib.Omega.{arith}
 use lib.IntN.{ℤ, pos, _+ℤ_, _*ℤ_}
-use lib.ListN.{length, getD, List·getD-map}
+use lib.ListN.{getD, List·getD-map}
 use Rattle.whole.specs.Bound.{Within, truncDiv}
 use Rattle.whole.specs.Sum.{sum, sumℤ}
 use lib.Signed.{nonNeg}

@@ -1,6 +1,5 @@
 // The face amounts G of a step (fluxes), from the stages in work: east faces in the first section after the sums, then north faces.
 // Every function here is a leaf: the shape is admitted, work holds the stages, and their numbers are within 1,700,000,000.
-ghost use mathlib.Core.Path.{_≡_};
 ghost use Prim.Native.Nat.{_+_, _*_, _≤_, _<_};
 ghost use lib.ListN.{length};
 ghost use Rattle.whole.specs.Bound.{Within, Are};

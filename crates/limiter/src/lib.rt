@@ -3,12 +3,11 @@
 ghost use mathlib.Core.Path.{_≡_};
 ghost use Prim.Native.Nat.{_*_, _≤_, _<_, _^_};
 ghost use lib.IntN.{ℤ, pos, _+ℤ_, _*ℤ_};
-ghost use lib.ListN.{length, getD};
+ghost use lib.ListN.{length};
 ghost use Rattle.whole.specs.Bound.{Within, Are};
 ghost use Rattle.whole.specs.Parts.{positive};
 ghost use Rattle.whole.specs.Sum.{sum, sumℤ};
-ghost use Rattle.whole.specs.Table.{table};
-ghost use Rattle.rules.specs.Field.{quadratic, weighted, mass};
+ghost use Rattle.rules.specs.Field.{quadratic, weighted};
 ghost use Rattle.rules.specs.Limiter.{meanShift, truncated, rescaled, closedUnlevelled, closed};
 ghost use Rattle.limiter.specs.Sizes.{Tentative, Shift, at, shifted};
 

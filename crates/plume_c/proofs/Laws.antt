@@ -1,5 +1,5 @@
 -- An answer's number, from whether it was accepted.
-use mathlib.Core.Path.{_≡_, refl, sym, ap, _∙_}
+use mathlib.Core.Path.{_≡_, refl, ap, _∙_}
 use Prim.Native.Nat.{ℕ}
 use Rattle.rules.specs.Answers.{Answer, accepted, refused, plain}
 use Rattle.plume_c.specs.Numbers.{code}

@@ -5,8 +5,8 @@ use mathlib.Core.Logic.{_≢_}
 use Prim.Native.Nat.{ℕ, zero, suc, _+_, _*_, _/_, _%_, _≤_, _<_}
 use native.Mathlib.Nat.{div-one}
 use native.Mathlib.Omega.{arith}
-use lib.IntN.{ℤ, pos, negsuc, _+ℤ_, _*ℤ_}
-use lib.ListN.{length, getD, take, drop, List·getD-map}
+use lib.IntN.{ℤ, pos, negsuc}
+use lib.ListN.{getD, take, drop, List·getD-map}
 use lib.Arith.{digits-div, digits-mod}
 use Rattle.whole.specs.Table.{table}
 use Rattle.whole.proofs.BoundLaws.{within-le, within-pos}
@@ -15,7 +15,7 @@ use Rattle.rules.specs.declared.Shape.{Shape}
 use Rattle.rules.specs.Stages.{tendency}
 use Rattle.rules.specs.Calls.{windAt}
 use Rattle.rules.proofs.StageBounds.{quadratic-tame, tendency-within}
-use Rattle.grid.specs.Place.{Fine, Placed}
+use Rattle.grid.specs.Place.{Placed}
 use Rattle.upwind.specs.Upwind.{asStage, Calm}
 use Rattle.rules.specs.Field.{quadratic, cell, elementLength}
 use Rattle.whole.proofs.OverwriteLaws.{part-at, part-room}

@@ -2,25 +2,24 @@
 use mathlib.Core.Path.{_≡_, refl, sym, ap, ap₂, subst, _∙_}
 use mathlib.Core.List.{List}
 use Prim.Native.Nat.{ℕ, zero, suc, _+_, _*_, _-_, _/_, _%_, _≤_, _<_}
-use native.Mathlib.Nat.{one-mul, mod-lt, div-lt-iff-lt-mul, div-add-mod', suc-mul, mul-le-mul-right}
-use native.Mathlib.Numerals.{add-one}
+use native.Mathlib.Nat.{one-mul, mul-le-mul-right}
 use native.Mathlib.Decide.{decLt, ℕ-discrete}
 use native.Mathlib.Omega.{arith}
 use lib.IntN.{ℤ, pos, negsuc, negℤ, _+ℤ_, _*ℤ_, +ℤ-idl}
 use lib.ListN.{length, getD, take, drop, List·getD-eq-default}
-use Rattle.whole.specs.Bound.{Within, AllWithin, floorDiv}
+use Rattle.whole.specs.Bound.{Within, floorDiv}
 use Rattle.whole.specs.Written.{Written}
-use Rattle.whole.proofs.BoundLaws.{within-le, within-add, within-mul, within-pos}
+use Rattle.whole.proofs.BoundLaws.{within-le, within-add, within-pos}
 use Rattle.whole.proofs.OverwriteLaws.{part-at, part-size, part-room}
 use Rattle.whole.proofs.TableLaws.{getD-table}
 use Rattle.rules.specs.declared.Shape.{Shape}
-use Rattle.rules.specs.Field.{quadratic, elements, faces, cell}
+use Rattle.rules.specs.Field.{quadratic, elements, faces}
 use Rattle.rules.specs.Stages.{tendency, tabulated, stage0, stage1, stage2, tentative, Stages, stages}
 use Rattle.rules.proofs.StageBounds.{quadratic-tame, φ0-within, t0-within, φ1-within, t1-within, φ2-within}
 use Rattle.grid.specs.Place.{Fine}
 use Rattle.upwind.specs.Upwind.{at, asStage}
 use Rattle.upwind.proofs.TendencyLaws.{tendency-cong}
-use Rattle.stages.specs.Advance.{section, divisor, newSum, newValue, storedValue, Ready, gridSums, gridValues}
+use Rattle.stages.specs.Advance.{section, newSum, newValue, storedValue, Ready, gridSums, gridValues}
 use Rattle.stages.proofs.Laws.{floor-one, flat}
 
 -- ---- the stages, their tendencies and the sums of these, by number

@@ -1,10 +1,9 @@
 -- The code's tables, and the sizes of the sums along a line of nodes.
 use mathlib.Core.Path.{_≡_, refl, sym, ap, ap₂, _∙_}
-use mathlib.Core.Bool.{Bool, true, false, cond}
 use mathlib.Core.Logic.{_≢_}
 use mathlib.Core.List.{List, [], _∷_}
 use Prim.Native.Nat.{ℕ, _+_, _*_, _-_, _/_, _%_, _^_, _≤_, _<_}
-use native.Mathlib.Nat.{mod-lt, zero-add, div-add-mod', mul-comm}
+use native.Mathlib.Nat.{mod-lt, zero-add}
 use native.Mathlib.Omega.{arith}
 use lib.Dec.{eqb, eqb→eq, leb, leb→le, ltb, ltb→lt}
 use lib.IntN.{ℤ, pos, negsuc, _+ℤ_, _-ℤ_, _*ℤ_, +ℤ-idr}
@@ -13,12 +12,12 @@ use Rattle.whole.specs.Bound.{Within, AllWithin, floorDiv}
 use Rattle.whole.specs.Sum.{sum, sumℤ, all}
 use Rattle.whole.specs.Table.{table, blocks}
 use Rattle.whole.proofs.Cases.{cond-no, ne→neqb}
-use Rattle.whole.proofs.BoundLaws.{within-le, within-mul, within-pos, within-sum, within-add}
+use Rattle.whole.proofs.BoundLaws.{within-le, within-mul, within-pos, within-sum}
 use Rattle.whole.proofs.SumLaws.{sum-mono, sumℤ-cong, all-at}
 use Rattle.whole.proofs.TableLaws.{length-table, getD-table, table-all, table-cong, blocks-table}
 use Rattle.whole.proofs.Sizes.{peak-at}
 use Rattle.rules.specs.Field.{quadratic}
-use Rattle.rules.specs.Stages.{node, placeWind, advection}
+use Rattle.rules.specs.Stages.{placeWind, advection}
 use Rattle.rules.proofs.StageBounds.{quadratic-tame, placeWind-within, lineBound, advection-within}
 use Rattle.tendency.specs.Line.{at, weighedWind, alongLine, withEnds, lineAt, lineNodes, localTendency}
 

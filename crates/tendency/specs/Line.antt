@@ -7,7 +7,6 @@ use lib.IntN.{ℤ, pos, _+ℤ_, _-ℤ_, _*ℤ_}
 use lib.ListN.{getD}
 use Rattle.whole.specs.Bound.{floorDiv}
 use Rattle.whole.specs.Sum.{sumℤ}
-use Rattle.whole.specs.Table.{table}
 use Rattle.rules.specs.Field.{quadratic}
 use Rattle.rules.specs.Stages.{node, placeWind, advection}
 

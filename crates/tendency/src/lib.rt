@@ -1,14 +1,10 @@
 // The tendency of one element, document 01's t(a, b), from its nine values, the winds of its four faces and the upwind values there.
 // Every function here is a leaf: values are within 1,700,000,000, as the stages are, and winds within 1024.
 ghost use mathlib.Core.Path.{_≡_};
-ghost use mathlib.Core.Bool.{cond};
 ghost use Prim.Native.Nat.{_+_, _*_, _≤_, _<_};
-ghost use lib.Dec.{eqb};
-ghost use lib.IntN.{ℤ, pos, _+ℤ_, _-ℤ_, _*ℤ_};
-ghost use lib.ListN.{length, getD};
+ghost use lib.ListN.{length};
 ghost use Rattle.whole.specs.Bound.{Within, Are, AllWithin};
-ghost use Rattle.whole.specs.Sum.{sumℤ};
-ghost use Rattle.whole.specs.Table.{table, blocks};
+ghost use Rattle.whole.specs.Table.{table};
 ghost use Rattle.tendency.specs.Line.{at, weighedWind, alongLine, withEnds, lineAt, lineNodes, localTendency};
 
 // Document 01's ω, and the shares of the west and the east wind at each place between two faces.

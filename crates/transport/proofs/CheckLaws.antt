@@ -9,7 +9,6 @@ use native.Mathlib.Omega.{arith}
 use lib.Dec.{T, leb, ltb, leb→le, ltb→lt}
 use lib.IntN.{ℤ, natAbs}
 use lib.ListN.{length, take, drop}
-use Rattle.whole.specs.Bound.{Within}
 use Rattle.whole.specs.Sum.{all}
 use Rattle.whole.specs.Table.{overwrite}
 use Rattle.whole.proofs.Cases.{both-yes}
@@ -21,7 +20,6 @@ use Rattle.rules.specs.Step.{tracerStep}
 use Rattle.rules.specs.Calls.{Operation, step, Lent, windInRange, windAt, windSound, lentEnough, soundIfThere, checks, done, call, totalReading, reportAfter, WorkAfter}
 use Rattle.rules.proofs.AnswerLaws.{Passed, answer-ind}
 use Rattle.rules.proofs.FieldLaws.{Ranges, ranges}
-use Rattle.rules.proofs.StepLaws.{length-after}
 use Rattle.field.proofs.CheckLaws.{prefix-refused, prefix-accepted}
 use Rattle.grid.specs.Place.{Fine}
 use Rattle.upwind.specs.Upwind.{Calm}

@@ -1,14 +1,14 @@
 -- The passes of a step, one after the other, are document 01's step of a tracer's part.
 use mathlib.Core.Path.{_≡_, refl, sym, ap, ap₂, subst, _∙_}
-use mathlib.Core.Bool.{Bool, cond}
+use mathlib.Core.Bool.{cond}
 use mathlib.Core.List.{List}
 use Prim.Native.Nat.{ℕ, _+_, _*_, _-_, _/_, _%_, _≤_, _<_}
 use native.Mathlib.Decide.{decLt}
 use native.Mathlib.Nat.{div-add-mod', zero-add}
 use native.Mathlib.Omega.{arith}
 use lib.Dec.{leb, leb→le, le→leb}
-use lib.IntN.{ℤ, pos, natAbs, _+ℤ_, _-ℤ_}
-use lib.ListN.{length, getD, take, drop, List·getD-eq-default}
+use lib.IntN.{ℤ, pos, _+ℤ_, _-ℤ_}
+use lib.ListN.{length, getD, List·getD-eq-default}
 use lib.Seq.{ext-getD}
 use lib.Signed.{nonNeg, _≤ℤ_}
 use Rattle.whole.specs.Bound.{Within, AllWithin}
@@ -24,15 +24,15 @@ use Rattle.whole.proofs.SumLaws.{all-at}
 use Rattle.whole.proofs.TableLaws.{getD-table}
 use Rattle.whole.proofs.WholeLaws.{positive-pos, abs-parts}
 use Rattle.rules.specs.declared.Shape.{Shape}
-use Rattle.rules.specs.Field.{quadratic, elements, faces, northFace, tracerLength, elementLength, cell, remainder, mass, total}
+use Rattle.rules.specs.Field.{quadratic, elements, faces, northFace, elementLength, cell, remainder, mass, total}
 use Rattle.rules.specs.Grid.{west, east, south, north, behind, ahead}
 use Rattle.rules.specs.Stages.{Stages, stages, flux}
 use Rattle.rules.specs.Limiter.{closed}
 use Rattle.rules.specs.Correction.{donor, outflow, cut, limitedFlux, target}
 use Rattle.rules.specs.Step.{report, finish}
 use Rattle.rules.specs.Calls.{windAt}
-use Rattle.rules.proofs.GridLaws.{behind-east, ahead-east, behind-north, ahead-north, behind-lt, ahead-lt, west-lt, south-lt, east-lt, north-lt}
-use Rattle.rules.proofs.CorrectionLaws.{limited, outflow-local}
+use Rattle.rules.proofs.GridLaws.{behind-east, ahead-east, behind-north, ahead-north, behind-lt, ahead-lt, west-lt, south-lt}
+use Rattle.rules.proofs.CorrectionLaws.{outflow-local}
 use Rattle.rules.proofs.PartLaws.{value-le-mass, mass-le-total}
 use Rattle.rules.proofs.LimiterLaws.{closed-cong}
 use Rattle.rules.proofs.StageBounds.{quadratic-tame, ψ-within, flux-within}
@@ -40,7 +40,7 @@ use Rattle.rules.proofs.StepLaws.{report-is, report-length, report-le, goal-abo
 use Rattle.grid.specs.Place.{Fine}
 use Rattle.upwind.specs.Upwind.{at, Calm}
 use Rattle.stages.specs.Advance.{section}
-use Rattle.stages.proofs.StagesLaws.{Holds, stageOf}
+use Rattle.stages.proofs.StagesLaws.{Holds}
 use Rattle.fluxes.specs.Face.{eastFlux, northFlux}
 use Rattle.fluxes.proofs.FluxLaws.{east-flux-is, north-flux-is}
 use Rattle.correction.specs.Amounts.{NotNegative, Light, fluxesAt, massesAt, outflowsAt, lentFluxes, localOutflow, limitedFace, limitedEast, limitedNorth, Amounts}

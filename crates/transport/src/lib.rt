@@ -7,7 +7,7 @@ ghost use lib.Dec.{leb};
 ghost use lib.ListN.{length};
 ghost use Rattle.rules.specs.Answers.{outcome, plain};
 ghost use Rattle.rules.specs.Field.{quadratic, faces, workNeeded, fieldLength};
-ghost use Rattle.rules.specs.Calls.{step, Lent, lent, call, windSound, reportAfter, WorkAfter};
+ghost use Rattle.rules.specs.Calls.{step, lent, call, windSound, reportAfter, WorkAfter};
 ghost use Rattle.field.specs.Places.{Sized};
 ghost use Rattle.transport.specs.Checks.{lentOf};
 use rules::Outcome;

@@ -1,18 +1,17 @@
 // The step of one tracer, on its part of the field. Leaves: the shape is admitted, buffers are long enough, winds and the tracer's
 // total are in their ranges.
 ghost use mathlib.Core.Path.{_≡_};
-ghost use Prim.Native.Nat.{_+_, _*_, _≤_, _<_};
+ghost use Prim.Native.Nat.{_+_, _*_, _≤_};
 ghost use lib.ListN.{length};
 ghost use Rattle.whole.specs.Parts.{positive};
 ghost use Rattle.whole.specs.Table.{blocks, overwrite};
 ghost use Rattle.rules.specs.Field.{quadratic, elements, faces, total};
-ghost use Rattle.rules.specs.Limiter.{closed};
 ghost use Rattle.rules.specs.Correction.{target};
 ghost use Rattle.rules.specs.Step.{tracerStep};
 ghost use Rattle.rules.specs.Calls.{windAt};
 ghost use Rattle.grid.specs.Place.{Fine, Placed};
 ghost use Rattle.upwind.specs.Upwind.{at, Calm};
-ghost use Rattle.transport.specs.Finish.{Finished, massOf, tentativeOf, newElement};
+ghost use Rattle.transport.specs.Finish.{Finished, massOf, newElement};
 use rules::Shape;
 
 // An element's target: its mass, less what leaves by its east and north face, and what comes by its west and south face.

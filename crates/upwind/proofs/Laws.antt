@@ -1,21 +1,19 @@
 -- Upwind values of a stage that is a list: where they stand.
-use mathlib.Core.Path.{_≡_, refl, sym, ap, _∙_}
-use mathlib.Core.Bool.{Bool, true, false, cond}
-use mathlib.Core.List.{List, [], _∷_}
-use Prim.Native.Nat.{ℕ, zero, suc, _+_, _*_, _-_, _/_, _%_, _≤_, _<_}
+use mathlib.Core.Path.{_≡_, refl}
+use mathlib.Core.Bool.{true, false}
+use Prim.Native.Nat.{ℕ, zero, suc, _+_, _*_, _-_, _/_, _<_}
 use native.Mathlib.Omega.{arith}
 use lib.Dec.{eqb, eqb→eq}
 use Rattle.whole.specs.Sum.{all}
 use Rattle.whole.proofs.SumLaws.{all-at}
 use lib.IntN.{ℤ, pos, negsuc}
-use lib.ListN.{length, getD}
+use lib.ListN.{getD}
 use lib.Signed.{nonNeg, leZ}
 use borrow.Author.Tests.{le-leb}
 use Rattle.rules.specs.declared.Shape.{Shape}
 use Rattle.rules.specs.Field.{elements}
-use Rattle.rules.specs.Grid.{west, east, south, north}
-use Rattle.grid.specs.Place.{Fine, Placed}
-use Rattle.upwind.specs.Upwind.{at, behinds, aheads, lasts, strides, upwindStart, sideStart, upwindPlace, Reached}
+use Rattle.grid.specs.Place.{Placed}
+use Rattle.upwind.specs.Upwind.{behinds, aheads, lasts, strides, upwindStart}
 use Rattle.rules.proofs.GridLaws.{west-lt, east-lt, south-lt, north-lt}
 
 -- ---- the sign of a wind

@@ -1,5 +1,5 @@
 -- The tendency of an element of the grid by its own values, the winds of its four faces and twelve upwind values.
-use mathlib.Core.Path.{_≡_, refl, sym, ap, ap₂, subst, _∙_}
+use mathlib.Core.Path.{_≡_, sym, ap, ap₂, _∙_}
 use mathlib.Core.Bool.{Bool, true, false, cond, not}
 use mathlib.Core.List.{List, [], _∷_}
 use Prim.Native.Nat.{ℕ, zero, suc, _+_, _*_, _-_, _/_, _%_, _≤_, _<_}
@@ -23,7 +23,7 @@ use Rattle.rules.specs.Calls.{windAt}
 use Rattle.rules.proofs.GridLaws.{west-lt, south-lt, east-west, north-south, looks-east, looks-north, behind-lt, ahead-lt, behind-east, ahead-east, behind-north, ahead-north}
 use Rattle.grid.specs.Place.{Fine, Placed}
 use Rattle.tendency.specs.Line.{localTendency}
-use Rattle.upwind.specs.Upwind.{at, asStage, Calm, sideWinds, behinds, aheads, lasts, strides, upwindStart, sideStart, upwindPlace, Reached}
+use Rattle.upwind.specs.Upwind.{at, asStage, Calm, sideWinds, lasts, strides, upwindStart, sideStart, upwindPlace, Reached}
 use Rattle.upwind.proofs.Laws.{four, behind-inside, ahead-inside}
 
 -- ---- what an advection and a tendency read

@@ -1,13 +1,11 @@
 // Upwind values, and the tendencies of one element of the grid. A stage is lent as nine numbers an element.
 // Every function here is a leaf: the element is on the grid, the stage has its numbers, and winds and values are in their ranges.
 ghost use mathlib.Core.Path.{_≡_};
-ghost use mathlib.Core.Bool.{cond};
 ghost use Prim.Native.Nat.{_+_, _*_, _≤_, _<_};
-ghost use lib.ListN.{length, getD};
-ghost use lib.IntN.{pos};
+ghost use lib.ListN.{length};
 ghost use Rattle.whole.specs.Bound.{AllWithin};
 ghost use Rattle.whole.specs.Table.{table};
-ghost use Rattle.rules.specs.Field.{quadratic, elements, faces};
+ghost use Rattle.rules.specs.Field.{quadratic, elements};
 ghost use Rattle.rules.specs.Stages.{tendency};
 ghost use Rattle.rules.specs.Calls.{windAt};
 ghost use Rattle.grid.specs.Place.{Placed};

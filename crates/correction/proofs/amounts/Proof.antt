@@ -1,5 +1,5 @@
 use mathlib.Core.Path.{_≡_, refl, sym, ap, subst, _∙_}
-use Prim.Native.Nat.{ℕ, _≤_, _<_, _-_, _+_, _*_}
+use Prim.Native.Nat.{_≤_, _-_, _+_, _*_}
 use borrow.Author.Needs.{needs}
 use native.Mathlib.Omega.{arith}
 use native.Mathlib.Nat.{add-sub-cancel-left}
@@ -16,7 +16,7 @@ use Rattle.rules.specs.Field.{quadratic, elements, faces, mass}
 use Rattle.grid.specs.Place.{Placed}
 use Rattle.grid.proofs.Laws.{elements-le}
 use Rattle.upwind.specs.Upwind.{at}
-use Rattle.correction.specs.Amounts.{fluxesAt, massesAt, outflowsAt, lentFluxes, localOutflow}
+use Rattle.correction.specs.Amounts.{fluxesAt, massesAt, lentFluxes, localOutflow}
 use Rattle.correction.proofs.Laws.{mass-part}
 use Rattle.correction.proofs.amounts.Statement.{statement}
 use Rattle.correction.proofs.amounts.Tie as tie

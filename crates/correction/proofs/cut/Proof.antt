@@ -1,15 +1,9 @@
-use mathlib.Core.Path.{_≡_, refl, sym, ap, ap₂, subst, _∙_}
-use mathlib.Core.Bool.{true, false}
+use mathlib.Core.Path.{sym, ap₂, _∙_}
 use Prim.Native.Nat.{_<_}
-use borrow.Author.Needs.{needs}
 use native.Mathlib.Omega.{arith}
-use lib.Dec.{ltb→lt}
-use lib.IntN.{ℤ, pos, _*ℤ_}
+use lib.IntN.{ℤ, _*ℤ_}
 use lib.Signed.{leZ, quotZ}
-use mir.Syntax.{w64}
-use mir.Val.{toZ, ofZ}
 use mir.Facts.{toZ-ofZ}
-use Rattle.whole.specs.Bound.{Within}
 use Rattle.whole.specs.Parts.{positive}
 use Rattle.whole.proofs.FloorLaws.{bits-above}
 use Rattle.whole.proofs.Sizes.{sizes, sizes-wide, exacts-wide, fits, exact, are-eq}

@@ -1,6 +1,5 @@
-use mathlib.Core.Path.{_≡_, refl, sym, ap, _∙_}
+use mathlib.Core.Path.{sym, ap, _∙_}
 use mathlib.Core.Bool.{cond}
-use borrow.Author.Needs.{needs}
 use lib.IntN.{pos}
 use lib.Signed.{leZ}
 use mir.Facts.{toZ-ofZ}

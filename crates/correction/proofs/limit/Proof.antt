@@ -1,10 +1,9 @@
-use mathlib.Core.Path.{_≡_, refl, sym, ap, _∙_}
-use Prim.Native.Nat.{ℕ, _≤_, _<_, _-_, _+_, _*_}
+use mathlib.Core.Path.{refl, ap, _∙_}
+use Prim.Native.Nat.{_≤_, _-_}
 use borrow.Author.Needs.{needs}
 use native.Mathlib.Omega.{arith}
-use lib.ListN.{length, length-set}
-use mir.Syntax.{w64, w32}
-use Rattle.whole.specs.Bound.{Within, Are}
+use lib.ListN.{length-set}
+use Rattle.whole.specs.Bound.{Are}
 use Rattle.whole.specs.Written.{Written}
 use Rattle.whole.proofs.Sizes.{sizes, exacts, fits, exact}
 use Rattle.whole.proofs.WrittenLaws.{written-none, written-store, written-moved}

@@ -1,9 +1,8 @@
-use mathlib.Core.Path.{_≡_, refl, sym, ap, subst, _∙_}
+use mathlib.Core.Path.{_≡_, sym, ap, subst, _∙_}
 use mathlib.Core.Bool.{cond}
-use Prim.Native.Nat.{ℕ, _≤_, _<_, _+_, _*_}
+use Prim.Native.Nat.{ℕ, _≤_, _<_, _+_}
 use borrow.Author.Needs.{needs}
 use native.Mathlib.Omega.{arith}
-use lib.IntN.{ℤ}
 use lib.ListN.{length}
 use lib.Signed.{nonNeg}
 use mir.Syntax.{w64}
@@ -12,7 +11,7 @@ use Rattle.whole.specs.Bound.{Within}
 use Rattle.whole.specs.Parts.{positive}
 use Rattle.whole.proofs.Cases.{cond-ind}
 use Rattle.whole.proofs.Sizes.{back-is, read-back, are-eq}
-use Rattle.rules.specs.Field.{elements, faces}
+use Rattle.rules.specs.Field.{elements}
 use Rattle.rules.specs.Correction.{cut}
 use Rattle.grid.proofs.Laws.{elements-le}
 use Rattle.upwind.specs.Upwind.{at}

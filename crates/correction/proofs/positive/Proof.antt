@@ -1,8 +1,5 @@
-use mathlib.Core.Path.{_≡_, refl, sym, ap, _∙_}
-use borrow.Author.Needs.{needs}
-use native.Mathlib.Omega.{arith}
+use mathlib.Core.Path.{sym, ap}
 use lib.IntN.{pos}
-use Rattle.whole.specs.Bound.{Within}
 use Rattle.whole.proofs.FloorLaws.{less-yes, less-no}
 use Rattle.whole.proofs.Sizes.{exacts, exacts-wide, exact-test, bounded}
 use Rattle.whole.proofs.WholeLaws.{positive-below, above-positive}

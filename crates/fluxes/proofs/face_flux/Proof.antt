@@ -1,11 +1,11 @@
-use mathlib.Core.Path.{_≡_, refl, sym, ap, _∙_}
-use Prim.Native.Nat.{ℕ, _≤_, _<_, _-_, _+_, _*_}
+use mathlib.Core.Path.{_≡_, ap, _∙_}
+use Prim.Native.Nat.{_<_, _-_}
 use borrow.Author.Needs.{needs}
 use native.Mathlib.Omega.{arith}
 use lib.Dec.{lit<}
 use lib.ListN.{getD}
 use mir.Facts.{toZ-ofZ}
-use Rattle.whole.proofs.Sizes.{sizes, exacts, fits, exact, within, bounded, are-eq}
+use Rattle.whole.proofs.Sizes.{sizes, exacts, fits, bounded, are-eq}
 use Rattle.upwind.specs.Upwind.{upwindStart}
 use Rattle.fluxes.specs.Face.{faceLasts, faceStrides, stagesSum}
 use Rattle.fluxes.proofs.Laws.{line-room, start-room, flux-is}

@@ -1,10 +1,9 @@
-use mathlib.Core.Path.{_≡_, refl, sym, ap, subst, _∙_}
-use Prim.Native.Nat.{ℕ, _≤_, _<_, _-_, _+_, _*_}
+use mathlib.Core.Path.{_≡_, refl, sym, subst, _∙_}
+use Prim.Native.Nat.{ℕ, _≤_, _<_, _-_, _*_}
 use borrow.Author.Needs.{needs}
 use native.Mathlib.Omega.{arith}
-use lib.IntN.{ℤ, pos}
 use lib.ListN.{length, length-set}
-use mir.Syntax.{w64, w16}
+use mir.Syntax.{w64}
 use mir.Val.{toZ, ofZ}
 use Rattle.whole.specs.Bound.{Within}
 use Rattle.whole.specs.Written.{Written}

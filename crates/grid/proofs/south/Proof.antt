@@ -1,5 +1,4 @@
 use native.Mathlib.Omega.{arith}
-use borrow.Author.Needs.{needs}
 use Rattle.grid.proofs.Laws.{elements-le, row-le, south-first, south-next}
 use Rattle.grid.proofs.south.Statement.{statement}
 use Rattle.grid.proofs.south.Tie as tie

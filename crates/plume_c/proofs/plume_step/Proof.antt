@@ -1,4 +1,4 @@
-use mathlib.Core.Path.{_≡_, sym, ap, _∙_}
+use mathlib.Core.Path.{sym, ap, _∙_}
 use borrow.Author.Needs.{needs}
 use Rattle.rules.specs.Answers.{outcome}
 use Rattle.plume_c.proofs.Laws.{code-accepted, code-refused}

@@ -1,12 +1,11 @@
 use mathlib.Core.Path.{_≡_, refl, sym, ap, ap₂, subst, _∙_}
-use mathlib.Core.List.{List}
-use Prim.Native.Nat.{ℕ, suc, _≤_, _<_, _-_, _+_, _*_, _/_, _%_}
+use Prim.Native.Nat.{ℕ, _≤_, _<_, _-_, _+_, _*_, _/_, _%_}
 use borrow.Author.Needs.{needs}
 use native.Mathlib.Omega.{arith}
-use native.Mathlib.Nat.{add-sub-cancel-left, mul-le-mul-right, suc-mul}
+use native.Mathlib.Nat.{add-sub-cancel-left, suc-mul}
 use native.Mathlib.Numerals.{add-one}
-use lib.IntN.{ℤ, pos}
-use lib.ListN.{length, getD, take, drop}
+use lib.IntN.{pos}
+use lib.ListN.{length, take, drop}
 use mir.Facts.{toZ-ofZ}
 use Rattle.whole.specs.Bound.{Within, AllWithin}
 use Rattle.whole.specs.Table.{table}

@@ -1,11 +1,9 @@
-use mathlib.Core.Path.{_≡_, refl, sym, ap, ap₂, subst, _∙_}
-use mathlib.Core.List.{List, [], _∷_}
-use Prim.Native.Nat.{ℕ, _≤_, _<_, _-_, _+_, _*_}
+use mathlib.Core.Path.{_≡_, sym, ap, ap₂, subst, _∙_}
+use Prim.Native.Nat.{_≤_, _-_, _+_, _*_}
 use borrow.Author.Needs.{needs}
 use native.Mathlib.Omega.{arith}
-use lib.IntN.{ℤ, pos, _+ℤ_, _*ℤ_}
-use lib.ListN.{length, getD, set, length-set}
-use lib.Seq.{getD-set-other}
+use lib.IntN.{ℤ, _+ℤ_, _*ℤ_}
+use lib.ListN.{length, length-set}
 use mir.Syntax.{w64}
 use mir.Val.{toZ, ofZ}
 use Rattle.whole.specs.Bound.{Within, floorDiv}
@@ -13,7 +11,7 @@ use Rattle.whole.specs.Written.{Written}
 use Rattle.whole.proofs.WrittenLaws.{written-none, written-next}
 use Rattle.whole.proofs.Sizes.{sizes, exacts, fits, within, exact, are-eq, are-at, peak-at}
 use Rattle.upwind.specs.Upwind.{at}
-use Rattle.stages.specs.Advance.{divisor, newSum, newValue, elementSums, elementValues}
+use Rattle.stages.specs.Advance.{divisor, elementSums, elementValues}
 use Rattle.stages.proofs.Laws.{factors, factor-is}
 use Rattle.stages.proofs.advance_element.Statement.{statement}
 use Rattle.stages.proofs.advance_element.Tie as tie

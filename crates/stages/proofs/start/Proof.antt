@@ -1,10 +1,9 @@
-use mathlib.Core.Path.{_≡_, refl, sym, ap, _∙_}
-use Prim.Native.Nat.{ℕ, _≤_, _<_, _-_, _+_, _*_}
+use mathlib.Core.Path.{_≡_, refl}
+use Prim.Native.Nat.{_≤_, _-_, _+_, _*_}
 use borrow.Author.Needs.{needs}
 use native.Mathlib.Omega.{arith}
 use native.Mathlib.Nat.{add-sub-cancel-left}
-use lib.IntN.{ℤ, pos}
-use lib.ListN.{length, getD, take, drop}
+use lib.IntN.{pos}
 use Rattle.whole.specs.Written.{Written}
 use Rattle.whole.proofs.OverwriteLaws.{part-size}
 use Rattle.whole.proofs.WrittenLaws.{written-none, written-moved, written-turn}

@@ -3,16 +3,14 @@ use mathlib.Core.List.{_++_, append-nil}
 use Prim.Native.Nat.{_≤_, _-_, _+_}
 use borrow.Author.Needs.{needs}
 use native.Mathlib.Omega.{arith}
-use lib.IntN.{ℤ}
 use lib.ListN.{length, drop, length-set, drop-of-length-le}
 use mir.Syntax.{w64}
 use mir.Val.{toZ, ofZ}
 use mir.Facts.{toZ-ofZ}
 use Rattle.whole.specs.Table.{table}
-use Rattle.whole.proofs.BoundLaws.{within-back}
 use Rattle.whole.proofs.TableLaws.{fill-next}
 use Rattle.whole.proofs.Sizes.{sizes, within, read-back}
-use Rattle.tendency.specs.Line.{alongLine, withEnds, lineAt}
+use Rattle.tendency.specs.Line.{withEnds, lineAt}
 use Rattle.tendency.proofs.line.Statement.{statement}
 use Rattle.tendency.proofs.line.Tie as tie
 

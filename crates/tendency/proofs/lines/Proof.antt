@@ -14,7 +14,7 @@ use Rattle.whole.proofs.OverwriteLaws.{part-size}
 use Rattle.whole.proofs.TableLaws.{length-table, fill-block, length-filled}
 use Rattle.whole.proofs.Sizes.{sizes, exacts, fits, within, exact}
 use Rattle.tendency.specs.Line.{lineAt, lineNodes}
-use Rattle.tendency.proofs.Laws.{lineRow, lineRow-length, rows-are, weighedWind-within}
+use Rattle.tendency.proofs.Laws.{lineRow, rows-are, weighedWind-within}
 use Rattle.tendency.proofs.lines.Statement.{statement}
 use Rattle.tendency.proofs.lines.Tie as tie
 

@@ -1,12 +1,11 @@
-use mathlib.Core.Path.{_≡_, refl, sym, ap, ap₂, subst, _∙_}
+use mathlib.Core.Path.{_≡_, refl, sym, ap₂, subst, _∙_}
 use mathlib.Core.List.{_++_, append-nil}
-use Prim.Native.Nat.{_≤_, _<_, _-_, _+_, _*_, _/_, _%_}
+use Prim.Native.Nat.{_≤_, _-_, _+_}
 use borrow.Author.Needs.{needs}
 use native.Mathlib.Omega.{arith}
-use lib.IntN.{pos}
-use lib.ListN.{length, drop, length-set, getD}
+use lib.ListN.{length, drop, length-set}
 use mir.Syntax.{w64}
-use Rattle.whole.specs.Bound.{Within, AllWithin}
+use Rattle.whole.specs.Bound.{AllWithin}
 use Rattle.whole.specs.Table.{table}
 use Rattle.whole.proofs.TableLaws.{fill-next}
 use Rattle.whole.proofs.Sizes.{sizes, exacts-shift, fits, within, exact, back-is}

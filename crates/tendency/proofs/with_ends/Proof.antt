@@ -1,7 +1,4 @@
-use mathlib.Core.Path.{_≡_, refl, sym, _∙_}
-use borrow.Author.Needs.{needs}
-use native.Mathlib.Omega.{arith}
-use Rattle.whole.proofs.Sizes.{sizes, exacts, fits, exact, are-eq, bounded}
+use Rattle.whole.proofs.Sizes.{sizes, exacts, fits, bounded}
 use Rattle.tendency.proofs.Laws.{ends-last, ends-first, ends-inner}
 use Rattle.tendency.proofs.with_ends.Statement.{statement}
 use Rattle.tendency.proofs.with_ends.Tie as tie

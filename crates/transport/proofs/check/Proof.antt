@@ -1,15 +1,14 @@
-use mathlib.Core.Path.{_≡_, refl, sym, ap, _∙_}
+use mathlib.Core.Path.{_≡_, sym, ap, _∙_}
 use mathlib.Core.Bool.{true}
 use borrow.Author.Needs.{needs}
 use borrow.Author.Tests.{not-true, not-false}
-use native.Mathlib.Omega.{arith}
-use Prim.Native.Nat.{ℕ, _≤_, _<_, _-_}
+use Prim.Native.Nat.{_-_}
 use lib.Dec.{T, leb→le, leb}
 use lib.ListN.{length}
 use Rattle.whole.proofs.Cases.{both-yes}
-use Rattle.rules.specs.Answers.{accepted, refused, plain, reading}
+use Rattle.rules.specs.Answers.{plain, reading}
 use Rattle.rules.specs.Field.{quadratic, admitted, faces, fieldLength}
-use Rattle.rules.specs.Calls.{windSound, totalReading}
+use Rattle.rules.specs.Calls.{windSound}
 use Rattle.rules.proofs.FieldLaws.{ranges}
 use Rattle.field.specs.Places.{Sized}
 use Rattle.field.proofs.PlaceLaws.{sized}

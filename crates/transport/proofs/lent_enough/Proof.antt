@@ -1,8 +1,6 @@
-use mathlib.Core.Path.{_≡_, refl, sym, ap, _∙_}
-use borrow.Author.Needs.{needs}
+use mathlib.Core.Path.{refl}
 use borrow.Author.Tests.{lt-leb, le-leb}
 use native.Mathlib.Omega.{arith}
-use Prim.Native.Nat.{_≤_, _<_, _*_}
 use Rattle.field.proofs.PlaceLaws.{elements-le}
 use Rattle.transport.proofs.lent_enough.Statement.{statement}
 use Rattle.transport.proofs.lent_enough.Tie as tie

@@ -1,12 +1,11 @@
-use mathlib.Core.Path.{_≡_, refl, sym, ap, _∙_}
-use mathlib.Core.List.{List, _++_}
-use Prim.Native.Nat.{ℕ, _≤_, _<_, _-_, _+_, _*_}
+use mathlib.Core.Path.{_≡_, sym, ap, _∙_}
+use Prim.Native.Nat.{_≤_, _-_, _+_}
 use borrow.Author.Needs.{needs}
 use native.Mathlib.Omega.{arith}
 use native.Mathlib.Nat.{add-sub-cancel-left}
 use lib.ListN.{length, take, drop}
-use Rattle.rules.specs.Answers.{outcome, plain}
-use Rattle.rules.specs.Field.{quadratic, elements, part, total}
+use Rattle.rules.specs.Answers.{outcome}
+use Rattle.rules.specs.Field.{quadratic, part, total}
 use Rattle.rules.specs.Step.{tracerStep}
 use Rattle.rules.specs.Calls.{step, lent, windAt, done, call}
 use Rattle.whole.specs.Table.{overwrite}

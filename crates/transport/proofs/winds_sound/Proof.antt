@@ -3,8 +3,7 @@ use mathlib.Core.Bool.{true}
 use borrow.Author.Needs.{needs}
 use borrow.Author.Tests.{not-true, not-false}
 use native.Mathlib.Omega.{arith}
-use Prim.Native.Nat.{_≤_, _<_, _-_}
-use lib.ListN.{length}
+use Prim.Native.Nat.{_≤_, _-_}
 use mir.Syntax.{w16}
 use mir.Facts.{toZ-ofZ}
 use Rattle.whole.specs.Sum.{all}

@@ -1,14 +1,8 @@
-use mathlib.Core.Path.{_≡_, refl, sym, ap, _∙_}
+use mathlib.Core.Path.{ap, _∙_}
 use mathlib.Core.List.{[], _∷_}
-use Prim.Native.Nat.{_≤_, _<_, _+_, _*_}
+use Prim.Native.Nat.{_<_, _+_, _*_}
 use borrow.Author.Needs.{needs}
 use native.Mathlib.Omega.{arith}
-use lib.IntN.{pos}
-use lib.ListN.{length, getD}
-use mir.Syntax.{w64, w16}
-use mir.Val.{toZ, ofZ}
-use mir.Facts.{toZ-ofZ}
-use Rattle.whole.specs.Bound.{Within}
 use Rattle.whole.proofs.Sizes.{sizes-wide, fits, widened}
 use Rattle.rules.specs.Grid.{west, south}
 use Rattle.rules.specs.Calls.{windAt}

@@ -1,14 +1,11 @@
-use mathlib.Core.Path.{_≡_, refl, sym, ap, subst, _∙_}
+use mathlib.Core.Path.{_≡_, sym, ap, subst, _∙_}
 use mathlib.Core.List.{List}
-use Prim.Native.Nat.{ℕ, _+_, _*_, _<_}
+use Prim.Native.Nat.{ℕ, _+_, _*_}
 use borrow.Author.Needs.{needs}
 use native.Mathlib.Omega.{arith}
-use lib.IntN.{ℤ, pos}
-use lib.ListN.{getD}
 use Rattle.whole.specs.Bound.{AllWithin}
 use Rattle.whole.specs.Table.{table}
 use Rattle.rules.specs.Calls.{windAt}
-use Rattle.grid.proofs.Laws.{elements-le}
 use Rattle.tendency.specs.Line.{localTendency}
 use Rattle.upwind.specs.Upwind.{at, sideWinds, sideStart, upwindPlace, Reached}
 use Rattle.upwind.proofs.TendencyLaws.{gathered, reached, winds-small, picked-small}

@@ -1,6 +1,5 @@
 use mathlib.Core.Path.{sym, ap, _∙_}
 use borrow.Author.Needs.{needs}
-use native.Mathlib.Omega.{arith}
 use lib.Signed.{leZ}
 use lib.IntN.{pos}
 use mir.Facts.{toZ-ofZ}

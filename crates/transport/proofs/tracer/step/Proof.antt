@@ -1,14 +1,12 @@
-use mathlib.Core.Path.{_≡_, refl, sym, ap, _∙_}
-use Prim.Native.Nat.{ℕ, _≤_, _<_, _+_, _*_}
+use mathlib.Core.Path.{_≡_, _∙_}
+use Prim.Native.Nat.{_≤_, _+_, _*_}
 use borrow.Author.Needs.{needs}
 use native.Mathlib.Omega.{arith}
 use lib.ListN.{length}
-use Rattle.whole.specs.Table.{blocks}
 use Rattle.rules.specs.Field.{elements}
 use Rattle.rules.specs.Step.{tracerStep}
 use Rattle.rules.specs.Calls.{windAt}
 use Rattle.stages.proofs.StagesLaws.{Holds, holds-start, holds-next, ready, stages-small}
-use Rattle.fluxes.specs.Face.{Staged}
 use Rattle.transport.proofs.TracerLaws.{number-small, light, Fluxed, fluxed, lent-small, Weighed, weighed, all-amounts, reported, all-finished, all-closed}
 use Rattle.transport.proofs.tracer.step.Statement.{statement}
 use Rattle.transport.proofs.tracer.step.Tie as tie
