@@ -54,6 +54,9 @@ static int compare(size_t nx, size_t ny)
 {
     size_t n = nx * ny;
     struct run proved = made(n), plain = made(n);
+    /* one work for both: its pages are then the same for the two */
+    free(plain.work);
+    plain.work = proved.work;
     int16_t *wind = calloc(2 * n, 2);
     for (size_t i = 0; i < 10 * n; i++)
         proved.field[i] = i % 10 == 9 ? (uint32_t)draw(36) : (uint32_t)draw(100000000 / (40 * n));
