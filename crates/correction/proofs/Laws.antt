@@ -13,12 +13,13 @@ use mir.Syntax.{w64}
 use mir.Val.{toZ, ofZ}
 use Rattle.whole.proofs.Sizes.{exacts, bounded}
 use Rattle.whole.specs.Parts.{positive, negative}
-use Rattle.whole.proofs.WholeLaws.{above-positive, abs-neg}
+use Rattle.whole.proofs.WholeLaws.{above-positive}
 use Rattle.whole.proofs.Cases.{cond-ind}
 use mathlib.Core.List.{List}
 use lib.ListN.{getD, take, drop}
 use Rattle.whole.proofs.OverwriteLaws.{part-at}
 use Rattle.whole.proofs.SumLaws.{sum-cong}
+use Rattle.rules.proofs.CorrectionLaws.{abs-withSign}
 use Rattle.rules.specs.Field.{quadratic, elementLength, cell, remainder, weighted, mass}
 use Rattle.rules.specs.Limiter.{rescaled}
 use Rattle.rules.specs.Correction.{withSign, cut}
@@ -60,11 +61,6 @@ unfolding cut rescaled
 cut-divides z o m h = rw (lt-leb o m h) (quotient z o m)
 
 -- a cut flux is not larger than the flux
-abs-sign : (z : ℤ) (n : ℕ) → natAbs (withSign z n) ≡ n
-unfolding withSign
-abs-sign (pos a) n = refl
-abs-sign (negsuc a) n = abs-neg (pos n)
-
 rescaled-le : (o m v : ℕ) → rescaled o m v ≤ v
 unfolding rescaled
 rescaled-le o m v = cond-ind (leb o m) v (v * m / o) (λ x. x ≤ v) (λ _. le-refl v)
@@ -72,7 +68,7 @@ rescaled-le o m v = cond-ind (leb o m) v (v * m / o) (λ x. x ≤ v) (λ _. le-r
 
 pub cut-within : {n : ℕ} (z : ℤ) (o m : ℕ) → Within n z → Within n (cut z o m)
 unfolding cut
-cut-within z o m h = record { within = le-trans (le-of-eq (abs-sign z (rescaled o m (natAbs z)))) (le-trans (rescaled-le o m (natAbs z)) (h .within)) }
+cut-within z o m h = record { within = le-trans (le-of-eq (abs-withSign z (rescaled o m (natAbs z)))) (le-trans (rescaled-le o m (natAbs z)) (h .within)) }
 
 -- ---- the test, on numbers that are not negative
 module _ (o m : ℤ) (ho : pos 0 ≤ℤ o) (hm : pos 0 ≤ℤ m) where

@@ -5,13 +5,13 @@ use Prim.Native.Nat.{ℕ, _+_, _*_, _≤_, _<_}
 use lib.IntN.{ℤ, pos}
 use lib.ListN.{length, take, drop}
 use lib.Signed.{nonNeg, _≤ℤ_}
+use Rattle.whole.specs.Table.{at}
 use Rattle.whole.specs.Bound.{Within}
 use Rattle.whole.specs.Parts.{positive, negative}
 use Rattle.rules.specs.declared.Shape.{Shape}
 use Rattle.rules.specs.Field.{quadratic, elements, faces, northFace, mass}
 use Rattle.rules.specs.Grid.{west, east, south, north}
 use Rattle.rules.specs.Correction.{cut}
-use Rattle.upwind.specs.Upwind.{at}
 use Rattle.stages.specs.Advance.{section}
 
 -- z is from 0 to n

@@ -7,13 +7,13 @@ ghost use Prim.Native.Nat.{_+_, _*_, _≤_, _<_};
 ghost use lib.IntN.{pos};
 ghost use lib.ListN.{length};
 ghost use lib.Signed.{nonNeg};
+ghost use Rattle.whole.specs.Table.{at};
 ghost use Rattle.whole.specs.Bound.{Within, Are, AllWithin};
 ghost use Rattle.whole.specs.Parts.{positive, negative};
 ghost use Rattle.whole.specs.Written.{Written};
 ghost use Rattle.rules.specs.Field.{quadratic, elements, faces, mass};
 ghost use Rattle.rules.specs.Correction.{cut};
 ghost use Rattle.grid.specs.Place.{Fine, Placed};
-ghost use Rattle.upwind.specs.Upwind.{at};
 ghost use Rattle.correction.specs.Amounts.{NotNegative, Light, massesAt, outflowsAt, localOutflow, lentFluxes, limitedFace, limitedEast, limitedNorth, Amounts};
 use rules::Shape;
 

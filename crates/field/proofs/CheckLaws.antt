@@ -5,20 +5,19 @@ use mathlib.Core.List.{List, [], _∷_, _++_}
 use Prim.Native.Nat.{ℕ, _+_, _≤_, _<_}
 use native.Mathlib.Omega.{arith}
 use borrow.Author.Tests.{lt-leb, le-leb, lt-ltb, le-ltb}
-use lib.Dec.{T, leb, ltb, leb→le, ltb→lt}
+use lib.Dec.{leb, ltb, leb→le, ltb→lt}
 use lib.IntN.{ℤ}
 use lib.ListN.{length}
-use Rattle.whole.specs.Sum.{all}
 use Rattle.whole.proofs.Cases.{both-yes}
 use Rattle.rules.specs.declared.Shape.{Shape}
 use Rattle.rules.specs.Answers.{Answer, accepted, refused, Check, check, answer, after, plain}
-use Rattle.rules.specs.Field.{quadratic, admitted, elements, element, onGrid, fieldLength, part, withPart, remainder, weightSum, mass, total, limit, sound}
+use Rattle.rules.specs.Field.{quadratic, admitted, element, onGrid, fieldLength, part, withPart, mass, total, limit, sound}
 use Rattle.rules.specs.Calls.{Operation, emission, withdrawal, Lent, lentEnough, soundIfThere, checks, done, call, massReading, totalReading}
 use Rattle.field.specs.Places.{Inside}
 use Rattle.field.specs.Search.{searched}
 use Rattle.field.specs.declared.search.Total.the-variants.{Sum, Unsound}
 use Rattle.rules.proofs.AnswerLaws.{answer-ind}
-use Rattle.rules.proofs.FieldLaws.{Ranges, ranges}
+use Rattle.rules.proofs.FieldLaws.{Ranges, ranges, total-small, sound-there}
 use Rattle.rules.proofs.PartLaws.{mass-le-total}
 use Rattle.field.proofs.PlaceLaws.{sized, element-lt}
 
@@ -71,15 +70,6 @@ module _ (g : Shape) (s : ℕ) (f : List ℕ) where
     pub sum : t ≡ total quadratic g p
     pub small : t ≤ 100000000
 
-  total-small : T (sound quadratic g p) → total quadratic g p ≤ limit
-  unfolding sound
-  total-small t = leb→le _ _ (both-yes (all (elements g) (λ e. ltb (remainder quadratic p e) (weightSum quadratic))) (leb (total quadratic g p) limit) t .1)
-
-  there : (b : Bool) → T b → T (soundIfThere quadratic g b p) → T (sound quadratic g p)
-  unfolding soundIfThere
-  there true t h = h
-  there false t h = absurd t
-
   pub found : (t : ℕ) → totalReading quadratic g s f ≡ accepted t → Found t
   unfolding totalReading
   found t = answer-ind (λ a. a ≡ accepted t → Found t) first (total quadratic g p)
@@ -89,7 +79,7 @@ module _ (g : Shape) (s : ℕ) (f : List ℕ) where
         room = leb→le _ _ (c .1 .0);
         tracer = ltb→lt _ _ (c .1 .1 .1 .0);
         sum = sym q;
-        small = omega (arith, total-small (there (ltb s (g .tracers)) (c .1 .1 .1 .0) (c .1 .1 .0)));
+        small = omega (arith, total-small quadratic g p (sound-there quadratic g p (ltb s (g .tracers)) (c .1 .1 .1 .0) (c .1 .1 .0)));
       })
 
   -- the calls go on from there: those that are lent nothing beside the field
@@ -198,7 +188,7 @@ module _ (g : Shape) (s i j : ℕ) (f : List ℕ) where
         within = record { sized = sized (ranges g (c .0)); tracer = ltb→lt _ _ (c .1 .1 .1 .0); column = column; row = row };
         room = leb→le _ _ (c .1 .0);
         is = sym q;
-        small = omega (arith, total-small g s f (there g s f (ltb s (g .tracers)) (c .1 .1 .1 .0) (c .1 .1 .0)), mass-le-total quadratic g (part quadratic g s f) (element g i j) (element-lt g i j column row));
+        small = omega (arith, total-small quadratic g (part quadratic g s f) (sound-there quadratic g (part quadratic g s f) (ltb s (g .tracers)) (c .1 .1 .1 .0) (c .1 .1 .0)), mass-le-total quadratic g (part quadratic g s f) (element g i j) (element-lt g i j column row));
       })
 
   pub withdrawal-refused : (q n : ℕ) → massReading quadratic g s i j f ≡ refused n → call quadratic g s (withdrawal i j q) f .reply ≡ refused n

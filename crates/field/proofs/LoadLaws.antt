@@ -8,7 +8,7 @@ use lib.Dec.{leb, leb→le}
 use lib.IntN.{ℤ, pos}
 use lib.ListN.{length, getD, take, drop}
 use Rattle.whole.specs.Sum.{all}
-use Rattle.whole.specs.Table.{table}
+use Rattle.whole.specs.Table.{table, at}
 use Rattle.whole.proofs.SumLaws.{sum-cong, all-at}
 use Rattle.whole.proofs.OverwriteLaws.{part-at}
 use Rattle.whole.proofs.TableLaws.{length-table, getD-table, table-cong}
@@ -17,7 +17,7 @@ use Rattle.rules.specs.Limiter.{closed, closedUnlevelled}
 use Rattle.rules.specs.Calls.{loadedValue, loadedElement, emitted, withdrawn}
 use Rattle.rules.proofs.LimiterLaws.{closed-cong, unlevelled-cong}
 use Rattle.rules.proofs.PartLaws.{value-le-mass, length-loaded-element}
-use Rattle.limiter.specs.Sizes.{Tentative, at}
+use Rattle.limiter.specs.Sizes.{Tentative}
 use Rattle.field.specs.Places.{tenWeights, weighed}
 use Rattle.field.proofs.PlaceLaws.{ten}
 use Rattle.field.proofs.ElementLaws.{node-weight}

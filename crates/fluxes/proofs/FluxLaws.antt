@@ -5,7 +5,8 @@ use Prim.Native.Nat.{ℕ, _+_, _*_, _≤_, _<_}
 use native.Mathlib.Nat.{mul-le-mul-left}
 use native.Mathlib.Omega.{arith}
 use lib.IntN.{ℤ, pos, _+ℤ_, _*ℤ_}
-use lib.ListN.{getD, take, drop}
+use lib.ListN.{take, drop}
+use Rattle.whole.specs.Table.{at}
 use Rattle.whole.proofs.OverwriteLaws.{part-at}
 use Rattle.whole.proofs.SumLaws.{sumℤ-cong}
 use Rattle.rules.specs.declared.Shape.{Shape}
@@ -14,11 +15,11 @@ use Rattle.rules.specs.Grid.{east, north}
 use Rattle.rules.specs.Stages.{upwind, faceSum, fluxOf, flux, Stages, stages}
 use Rattle.rules.proofs.GridLaws.{looks-east, looks-north, behind-east, ahead-east, behind-north, ahead-north, east-lt, north-lt}
 use Rattle.grid.specs.Place.{Fine}
-use Rattle.upwind.specs.Upwind.{at, asStage, upwindStart}
+use Rattle.upwind.specs.Upwind.{asStage, upwindStart}
 use Rattle.upwind.proofs.TendencyLaws.{upwind-cong, upwind-east-at, upwind-north-at}
 use Rattle.stages.specs.Advance.{section}
 use Rattle.stages.proofs.StagesLaws.{stageOf, Holds, section-is}
-use Rattle.fluxes.specs.Face.{stagesSum, faceLasts, faceStrides, faceFlux, eastFlux, northFlux}
+use Rattle.fluxes.specs.Face.{stagesSum, faceFlux, eastFlux, northFlux}
 use Rattle.fluxes.proofs.Laws.{start-room}
 
 module _ (g : Shape) (c : ℕ → ℤ) (p : List ℕ) (fine : Fine g) (m : ℕ) (w : List ℤ) (two : 2 ≤ m) (h : Holds g c p m w) where
@@ -37,9 +38,9 @@ module _ (g : Shape) (c : ℕ → ℤ) (p : List ℕ) (fine : Fine g) (m : ℕ) 
         ∙ stands (take (section g) (drop (j * section g) w)) r
         ∙ part-at (section g) (j * section g) (section g) w (start + stride * r) (pos 0) refl (place r l)
 
-    flux-of : (b a way : ℕ) → start ≡ upwindStart (c f) b a (getD faceLasts way 0) → stride ≡ getD faceStrides way 0 → faceFlux w (section g) (c f) b a way ≡ flux quadratic g c s f
+    flux-of : (b a last : ℕ) → start ≡ upwindStart (c f) b a last → faceFlux w (section g) (c f) b a last stride ≡ flux quadratic g c s f
     unfolding faceFlux flux stagesSum faceSum quadratic
-    flux-of b a way es et = (λ i. fluxOf quadratic (c f) (stagesSum w (section g) (sym es i) (sym et i)))
+    flux-of b a last es = (λ i. fluxOf quadratic (c f) (stagesSum w (section g) (sym es i) stride))
         ∙ ap (fluxOf quadratic (c f)) (sumℤ-cong 3 _ _ (λ r l. let n = start + stride * r in
         let e0 : n ≡ 0 * section g + n = omega arith in
         let e1 : section g + n ≡ 1 * section g + n = omega arith in
@@ -48,10 +49,10 @@ module _ (g : Shape) (c : ℕ → ℤ) (p : List ℕ) (fine : Fine g) (m : ℕ) 
   module _ (e : ℕ) (le : e < elements g) where
     pub east-flux-is : eastFlux g c w e ≡ flux quadratic g c s e
     east-flux-is = flux-of e (upwindStart (c e) e (east g e) 2) 3 (omega arith)
-        (start-room (c e) e (east g e) 0 (section g) (omega arith) (omega arith) (omega (arith, east-lt g (fine .nx-above) (fine .ny-above) e le)))
-        (λ l r. upwind-east-at g c l e e (east g e) r (looks-east g e le) (behind-east g e le) (ahead-east g e le)) e (east g e) 0 refl refl
+        (start-room (c e) e (east g e) 2 3 (section g) (omega arith) (omega arith) (omega (arith, east-lt g (fine .nx-above) (fine .ny-above) e le)))
+        (λ l r. upwind-east-at g c l e e (east g e) r (looks-east g e le) (behind-east g e le) (ahead-east g e le)) e (east g e) 2 refl
 
     pub north-flux-is : northFlux g c w e ≡ flux quadratic g c s (northFace g e)
     north-flux-is = flux-of (northFace g e) (upwindStart (c (northFace g e)) e (north g e) 6) 1 (omega arith)
-        (start-room (c (northFace g e)) e (north g e) 1 (section g) (omega arith) (omega arith) (omega (arith, north-lt g (fine .nx-above) (fine .ny-above) e le)))
-        (λ l r. upwind-north-at g c l (northFace g e) e (north g e) r (looks-north g e) (behind-north g e le) (ahead-north g e le)) e (north g e) 1 refl refl
+        (start-room (c (northFace g e)) e (north g e) 6 1 (section g) (omega arith) (omega arith) (omega (arith, north-lt g (fine .nx-above) (fine .ny-above) e le)))
+        (λ l r. upwind-north-at g c l (northFace g e) e (north g e) r (looks-north g e) (behind-north g e le) (ahead-north g e le)) e (north g e) 6 refl

@@ -1,11 +1,12 @@
 -- A face's sum over its nodes, and its size.
 use mathlib.Core.Path.{_≡_, refl, sym, ap, _∙_}
-use mathlib.Core.List.{List, [], _∷_}
-use Prim.Native.Nat.{ℕ, zero, suc, _+_, _*_, _≤_, _<_}
+use mathlib.Core.List.{List}
+use Prim.Native.Nat.{ℕ, _+_, _*_, _≤_, _<_}
 use native.Mathlib.Nat.{mul-le-mul-left}
 use native.Mathlib.Omega.{arith}
 use lib.IntN.{ℤ, pos, _+ℤ_, _*ℤ_}
-use lib.ListN.{getD, List·getD-map}
+use lib.ListN.{getD}
+use Rattle.whole.specs.Table.{at}
 use Rattle.whole.specs.Bound.{Within, truncDiv}
 use Rattle.whole.specs.Sum.{sum, sumℤ}
 use lib.Signed.{nonNeg}
@@ -15,15 +16,9 @@ use Rattle.whole.proofs.SumLaws.{sum-mono, sumℤ-cong}
 use Rattle.whole.proofs.Sizes.{peak-at}
 use Rattle.rules.specs.Field.{quadratic}
 use Rattle.rules.specs.Stages.{faceSum, fluxOf}
-use Rattle.upwind.specs.Upwind.{at, upwindStart}
-use Rattle.fluxes.specs.Face.{Staged, stagesSum, faceLasts, faceStrides, faceFlux}
-
-abbrev pub weights : List ℤ
-weights = pos 1 ∷ pos 4 ∷ pos 1 ∷ []
-
-weight-is : (q : ℕ) → getD weights q (pos 0) ≡ pos (quadratic .lineWeight q)
-unfolding quadratic
-weight-is q = List·getD-map pos (1 ∷ 4 ∷ 1 ∷ []) q 0
+use Rattle.upwind.specs.Upwind.{upwindStart}
+use Rattle.rules.proofs.StageBounds.{weights, weight-is}
+use Rattle.fluxes.specs.Face.{Staged, stagesSum, faceFlux}
 
 module _ (w : List ℤ) (n start stride : ℕ) where
   -- the stages' values at node r, and its term
@@ -59,33 +54,25 @@ module _ (w : List ℤ) (n start stride : ℕ) where
             within-mul x y
 
 -- ---- the flux of a face
-pub line-room : (way : ℕ) → way < 2 → getD faceLasts way 0 + 2 * getD faceStrides way 0 ≤ 8
-line-room zero h = omega arith
-line-room (suc zero) h = omega arith
-line-room (suc (suc n)) h = let f : ⊥ = omega arith in absurd f
-
-pub start-room : (c : ℤ) (behind ahead way n : ℕ) → way < 2 → behind * 9 + 9 ≤ n → ahead * 9 + 9 ≤ n → upwindStart c behind ahead (getD faceLasts way 0) + 2 * getD faceStrides way 0 < n
+pub start-room : (c : ℤ) (behind ahead last stride n : ℕ) → last + 2 * stride < 9 → behind * 9 + 9 ≤ n → ahead * 9 + 9 ≤ n → upwindStart c behind ahead last + 2 * stride < n
 unfolding upwindStart
-start-room c behind ahead way n h b a = cond-ind (nonNeg c) _ _ (λ s. s + 2 * getD faceStrides way 0 < n) (λ _. omega (arith, line-room way h)) (λ _. omega (arith, line-room way h))
+start-room c behind ahead last stride n h b a = cond-ind (nonNeg c) _ _ (λ s. s + 2 * stride < n) (λ _. omega arith) (λ _. omega arith)
 
-pub flux-is : (w : List ℤ) (n : ℕ) (c : ℤ) (behind ahead way : ℕ) → truncDiv (c *ℤ stagesSum w n (upwindStart c behind ahead (getD faceLasts way 0)) (getD faceStrides way 0)) 4096 ≡ faceFlux w n c behind ahead way
+pub flux-is : (w : List ℤ) (n : ℕ) (c : ℤ) (behind ahead last stride : ℕ) → truncDiv (c *ℤ stagesSum w n (upwindStart c behind ahead last) stride) 4096 ≡ faceFlux w n c behind ahead last stride
 unfolding faceFlux fluxOf quadratic
-flux-is w n c behind ahead way = refl
+flux-is w n c behind ahead last stride = refl
 
 -- fluxes read the stages alone
-pub flux-kept : (w w′ : List ℤ) (n : ℕ) (c : ℤ) (behind ahead way : ℕ) → way < 2 → behind * 9 + 9 ≤ n → ahead * 9 + 9 ≤ n → ((i : ℕ) → i < 3 * n → at w i ≡ at w′ i) → faceFlux w n c behind ahead way ≡ faceFlux w′ n c behind ahead way
+pub flux-kept : (w w′ : List ℤ) (n : ℕ) (c : ℤ) (behind ahead last stride : ℕ) → last + 2 * stride < 9 → behind * 9 + 9 ≤ n → ahead * 9 + 9 ≤ n → ((i : ℕ) → i < 3 * n → at w i ≡ at w′ i) → faceFlux w n c behind ahead last stride ≡ faceFlux w′ n c behind ahead last stride
 unfolding faceFlux
-flux-kept w w′ n c behind ahead way h b a same = ap (fluxOf quadratic c) (sym (terms-are w n start stride)
+flux-kept w w′ n c behind ahead last stride h b a same = ap (fluxOf quadratic c) (sym (terms-are w n start stride)
     ∙ sumℤ-cong 3 (term w n start stride) (term w′ n start stride) (λ r l. ap (λ x. getD weights r (pos 0) *ℤ x) (each r l)) ∙ terms-are w′ n start stride)
   where
     start : ℕ
-    start = upwindStart c behind ahead (getD faceLasts way 0)
-
-    stride : ℕ
-    stride = getD faceStrides way 0
+    start = upwindStart c behind ahead last
 
     room : start + 2 * stride < n
-    room = start-room c behind ahead way n h b a
+    room = start-room c behind ahead last stride n h b a
 
     place : (r : ℕ) → r < 3 → start + stride * r < n
     place r l = let q : r ≤ 2 = omega arith in omega (arith, mul-le-mul-left stride q, room)

@@ -1,14 +1,15 @@
 -- A face's flux from the stages in work: stage m in section m, each of the same length.
-use mathlib.Core.List.{List, [], _∷_}
+use mathlib.Core.List.{List}
 use Prim.Native.Nat.{ℕ, _+_, _*_, _≤_, _<_}
 use lib.IntN.{ℤ}
-use lib.ListN.{length, getD}
+use lib.ListN.{length}
+use Rattle.whole.specs.Table.{at}
 use Rattle.whole.specs.Bound.{Within}
 use Rattle.rules.specs.declared.Shape.{Shape}
 use Rattle.rules.specs.Field.{quadratic, northFace}
 use Rattle.rules.specs.Grid.{east, north}
 use Rattle.rules.specs.Stages.{faceSum, fluxOf}
-use Rattle.upwind.specs.Upwind.{at, upwindStart}
+use Rattle.upwind.specs.Upwind.{upwindStart}
 use Rattle.stages.specs.Advance.{section}
 
 -- three stages of n numbers each, none too large
@@ -21,20 +22,15 @@ unfoldable pub stagesSum : List ℤ → ℕ → ℕ → ℕ → ℤ
 unfolding faceSum
 stagesSum w n start stride = faceSum quadratic (λ r. at w (start + stride * r)) (λ r. at w (n + (start + stride * r))) (λ r. at w (2 * n + (start + stride * r)))
 
--- the lines of nodes at an east and at a north face
-abbrev pub faceLasts : List ℕ
-faceLasts = 2 ∷ 6 ∷ []
-
-abbrev pub faceStrides : List ℕ
-faceStrides = 3 ∷ 1 ∷ []
-
-unfoldable pub faceFlux : List ℤ → ℕ → ℤ → ℕ → ℕ → ℕ → ℤ
+-- "Face amount" of a face with wind c between the elements behind and ahead: the line of nodes at the face begins at node last of the
+-- element behind it, and goes on by stride
+unfoldable pub faceFlux : List ℤ → ℕ → ℤ → ℕ → ℕ → ℕ → ℕ → ℤ
 unfolding fluxOf stagesSum upwindStart
-faceFlux w n c behind ahead way = fluxOf quadratic c (stagesSum w n (upwindStart c behind ahead (getD faceLasts way 0)) (getD faceStrides way 0))
+faceFlux w n c behind ahead last stride = fluxOf quadratic c (stagesSum w n (upwindStart c behind ahead last) stride)
 
--- the fluxes of element e's east and north face
+-- the fluxes of element e's east and north face: nodes 2, 5, 8 and nodes 6, 7, 8 lie there
 abbrev pub eastFlux : Shape → (ℕ → ℤ) → List ℤ → ℕ → ℤ
-eastFlux g c w e = faceFlux w (section g) (c e) e (east g e) 0
+eastFlux g c w e = faceFlux w (section g) (c e) e (east g e) 2 3
 
 abbrev pub northFlux : Shape → (ℕ → ℤ) → List ℤ → ℕ → ℤ
-northFlux g c w e = faceFlux w (section g) (c (northFace g e)) e (north g e) 1
+northFlux g c w e = faceFlux w (section g) (c (northFace g e)) e (north g e) 6 1

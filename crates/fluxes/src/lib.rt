@@ -15,11 +15,6 @@ use rules::Shape;
 // Document 01's ω along a face.
 const WEIGHTS: [i64; 3] = [1, 4, 1];
 
-// Where the upwind values of an east and of a north face begin in the element behind it, and how they go on.
-const LASTS: [usize; 2] = [2, 6];
-
-const STRIDES: [usize; 2] = [3, 1];
-
 // The sum over a face's three nodes of the stages' upwind values, which stand at start, start + stride, .. in each stage.
 fn face_sum(work: &[i64], length: usize, start: usize, stride: usize) -> i64
     requires { ⌜ Staged (now work) length ⌝ }
@@ -38,19 +33,28 @@ fn face_sum(work: &[i64], length: usize, start: usize, stride: usize) -> i64
     sum
 }
 
-// The flux of a face with wind c between the elements behind and ahead; way is 0 for an east face, 1 for a north face.
-fn face_flux(work: &[i64], length: usize, c: i64, behind: usize, ahead: usize, way: usize) -> i64
+// The flux of a face with wind c between the elements behind and ahead. The line of nodes at the face begins at node `last` of the
+// element behind it and goes on by `stride`.
+fn face_flux(
+    work: &[i64],
+    length: usize,
+    c: i64,
+    behind: usize,
+    ahead: usize,
+    last: usize,
+    stride: usize,
+) -> i64
     requires { ⌜ Staged (now work) length ⌝ }
     requires { ⌜ Within 1024 c ⌝ }
     requires { ⌜ behind < 4096 ⌝ }
     requires { ⌜ ahead < 4096 ⌝ }
     requires { ⌜ behind * 9 + 9 ≤ length ⌝ }
     requires { ⌜ ahead * 9 + 9 ≤ length ⌝ }
-    requires { ⌜ way < 2 ⌝ }
-    ensures { λ r. ⌜ Are 45900000000 r (faceFlux (now (work .entry)) length c behind ahead way) ⌝ }
+    requires { ⌜ last + 2 * stride < 9 ⌝ }
+    ensures { λ r. ⌜ Are 45900000000 r (faceFlux (now (work .entry)) length c behind ahead last stride) ⌝ }
 {
-    let start = upwind::upwind_start(c, behind, ahead, LASTS[way]);
-    let sum = face_sum(work, length, start, STRIDES[way]);
+    let start = upwind::upwind_start(c, behind, ahead, last);
+    let sum = face_sum(work, length, start, stride);
     c * sum / 4096
 }
 
@@ -67,13 +71,14 @@ pub fn fluxes(work: &mut [i64], wind: &[i16], shape: Shape)
     let easts = 5 * length;
     let norths = easts + n;
     for e in 0..n {
-        let east = face_flux(work, length, wind[e] as i64, e, grid::east(shape, e), 0);
+        let east = face_flux(work, length, wind[e] as i64, e, grid::east(shape, e), 2, 3);
         let north = face_flux(
             work,
             length,
             wind[n + e] as i64,
             e,
             grid::north(shape, e),
+            6,
             1,
         );
         work[norths + e] = north;

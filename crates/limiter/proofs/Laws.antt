@@ -7,6 +7,7 @@ use native.Mathlib.Omega.{arith}
 use lib.Dec.{eqb, eqb→eq, leb, leb→le}
 use lib.IntN.{ℤ, pos, _+ℤ_, _*ℤ_}
 use lib.ListN.{getD, List·getD-map}
+use Rattle.whole.specs.Table.{at}
 use Rattle.whole.specs.Bound.{Within}
 use Rattle.whole.specs.Sum.{sum, sumℤ, all}
 use Rattle.whole.proofs.BoundLaws.{within-le, within-add, within-mul, within-pos, within-sum}
@@ -15,7 +16,7 @@ use Rattle.whole.proofs.WholeLaws.{positive-le}
 use Rattle.rules.specs.Field.{quadratic, weighted}
 use Rattle.rules.specs.Limiter.{truncated, rescaledValue}
 use Rattle.rules.proofs.LimiterLaws.{values-le}
-use Rattle.limiter.specs.Sizes.{Tentative, Shift, at, shifted}
+use Rattle.limiter.specs.Sizes.{Tentative, Shift, shifted}
 
 -- the code's tables
 abbrev pub weights : List ℕ

@@ -1,13 +1,10 @@
 -- The sizes that the closing's callers ensure, and the values that it is given.
 use mathlib.Core.List.{List}
 use Prim.Native.Nat.{ℕ, _≤_, _<_}
-use lib.IntN.{ℤ, pos, _+ℤ_}
-use lib.ListN.{length, getD}
+use lib.IntN.{ℤ, _+ℤ_}
+use lib.ListN.{length}
+use Rattle.whole.specs.Table.{at}
 use Rattle.whole.specs.Bound.{Within}
-
--- the values of a list, by node
-abbrev pub at : List ℤ → ℕ → ℤ
-at l k = getD l k (pos 0)
 
 -- each raised by s
 abbrev pub shifted : List ℤ → ℤ → ℕ → ℤ

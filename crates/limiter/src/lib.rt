@@ -4,12 +4,13 @@ ghost use mathlib.Core.Path.{_≡_};
 ghost use Prim.Native.Nat.{_*_, _≤_, _<_, _^_};
 ghost use lib.IntN.{ℤ, pos, _+ℤ_, _*ℤ_};
 ghost use lib.ListN.{length};
+ghost use Rattle.whole.specs.Table.{at};
 ghost use Rattle.whole.specs.Bound.{Within, Are};
 ghost use Rattle.whole.specs.Parts.{positive};
 ghost use Rattle.whole.specs.Sum.{sum, sumℤ};
 ghost use Rattle.rules.specs.Field.{quadratic, weighted};
 ghost use Rattle.rules.specs.Limiter.{meanShift, truncated, rescaled, closedUnlevelled, closed};
-ghost use Rattle.limiter.specs.Sizes.{Tentative, Shift, at, shifted};
+ghost use Rattle.limiter.specs.Sizes.{Tentative, Shift, shifted};
 
 const WEIGHTS: [u64; 9] = [1, 4, 1, 4, 16, 4, 1, 4, 1];
 

@@ -30,7 +30,7 @@ weigh : (b : Bool) (x : ℕ) → cond b x 0 ≡ one-if b * x
 weigh true x = sym (one-mul x)
 weigh false x = sym (zero-mul x)
 
-abs-withSign : (z : ℤ) (n : ℕ) → natAbs (withSign z n) ≡ n
+pub abs-withSign : (z : ℤ) (n : ℕ) → natAbs (withSign z n) ≡ n
 unfolding withSign
 abs-withSign (pos a) n = refl
 abs-withSign (negsuc a) n = abs-neg (pos n)

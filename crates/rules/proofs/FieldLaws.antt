@@ -8,16 +8,29 @@ use native.Mathlib.Omega.{arith}
 use lib.Dec.{T, leb, ltb, leb→le, le→leb, ltb→lt}
 use lib.IntN.{ℤ}
 use lib.ListN.{length}
+use Rattle.whole.specs.Sum.{all}
 use Rattle.whole.proofs.Cases.{both-yes}
 use Rattle.whole.proofs.OverwriteLaws.{part-room, length-replaced, part-same, part-other}
 use Rattle.rules.specs.declared.Shape.{Shape}
 use Rattle.rules.specs.Answers.{Answer, accepted, refused, Check, check, answer, after}
-use Rattle.rules.specs.Field.{Kind, admitted, from1to, tracerLength, fieldLength, part, withPart}
+use Rattle.rules.specs.Field.{Kind, admitted, from1to, elements, tracerLength, fieldLength, part, withPart, remainder, weightSum, total, limit, sound}
 use Rattle.rules.specs.Step.{Stepped}
-use Rattle.rules.specs.Calls.{Operation, load, emission, withdrawal, step, Lent, lentEnough, done, checks, call}
+use Rattle.rules.specs.Calls.{Operation, load, emission, withdrawal, step, Lent, lentEnough, soundIfThere, done, checks, call}
 use Rattle.rules.proofs.AnswerLaws.{Passed, answer-ind}
 use Rattle.rules.proofs.PartLaws.{part-length}
 use Rattle.rules.proofs.CallLaws.{done-length}
+
+-- ---- what a sound tracer says
+module _ (κ : Kind) (g : Shape) (p : List ℕ) where
+  pub total-small : T (sound κ g p) → total κ g p ≤ limit
+  unfolding sound
+  total-small t = leb→le _ _ (both-yes (all (elements g) (λ e. ltb (remainder κ p e) (weightSum κ))) (leb (total κ g p) limit) t .1)
+
+  -- a tracer that is there has passed the check
+  pub sound-there : (b : Bool) → T b → T (soundIfThere κ g b p) → T (sound κ g p)
+  unfolding soundIfThere
+  sound-there true t h = h
+  sound-there false t h = absurd t
 
 -- what an admitted shape says
 pub record Ranges (g : Shape) : Type 0 where

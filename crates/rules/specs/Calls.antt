@@ -45,9 +45,12 @@ pub record Lent : Type 0 where
   pub reportLength : ℕ
   pub workLength : ℕ
 
--- the same from the buffers themselves
+-- the same from its three items, and from the buffers themselves
+abbrev pub lengthsLent : List ℤ → ℕ → ℕ → Lent
+lengthsLent wind report work = record { wind = wind; reportLength = report; workLength = work }
+
 abbrev pub lent : List ℤ → List ℤ → List ℤ → Lent
-lent wind report work = record { wind = wind; reportLength = length report; workLength = length work }
+lent wind report work = lengthsLent wind (length report) (length work)
 
 -- a wind of zeros
 unfoldable pub zeroWind : Shape → List ℤ → List ℤ

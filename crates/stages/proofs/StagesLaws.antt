@@ -7,6 +7,7 @@ use native.Mathlib.Decide.{decLt, ℕ-discrete}
 use native.Mathlib.Omega.{arith}
 use lib.IntN.{ℤ, pos, negsuc, negℤ, _+ℤ_, _*ℤ_, +ℤ-idl}
 use lib.ListN.{length, getD, take, drop, List·getD-eq-default}
+use Rattle.whole.specs.Table.{at}
 use Rattle.whole.specs.Bound.{Within, floorDiv}
 use Rattle.whole.specs.Written.{Written}
 use Rattle.whole.proofs.BoundLaws.{within-le, within-add, within-pos}
@@ -17,7 +18,7 @@ use Rattle.rules.specs.Field.{quadratic, elements, faces}
 use Rattle.rules.specs.Stages.{tendency, tabulated, stage0, stage1, stage2, tentative, Stages, stages}
 use Rattle.rules.proofs.StageBounds.{quadratic-tame, φ0-within, t0-within, φ1-within, t1-within, φ2-within}
 use Rattle.grid.specs.Place.{Fine}
-use Rattle.upwind.specs.Upwind.{at, asStage}
+use Rattle.upwind.specs.Upwind.{asStage}
 use Rattle.upwind.proofs.TendencyLaws.{tendency-cong}
 use Rattle.stages.specs.Advance.{section, newSum, newValue, storedValue, Ready, gridSums, gridValues}
 use Rattle.stages.proofs.Laws.{floor-one, flat}

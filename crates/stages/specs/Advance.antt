@@ -4,11 +4,12 @@ use mathlib.Core.List.{List, [], _∷_}
 use Prim.Native.Nat.{ℕ, _+_, _*_, _/_, _%_, _≤_, _<_}
 use lib.IntN.{ℤ, pos, _+ℤ_, _*ℤ_}
 use lib.ListN.{length, getD, take, drop}
+use Rattle.whole.specs.Table.{at}
 use Rattle.whole.specs.Bound.{Within, AllWithin, floorDiv}
 use Rattle.rules.specs.declared.Shape.{Shape}
 use Rattle.rules.specs.Field.{quadratic, elements, cell}
 use Rattle.rules.specs.Stages.{tendency}
-use Rattle.upwind.specs.Upwind.{at, asStage}
+use Rattle.upwind.specs.Upwind.{asStage}
 
 -- the numbers of a section of work
 abbrev pub section : Shape → ℕ

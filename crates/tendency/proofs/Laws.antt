@@ -10,7 +10,7 @@ use lib.IntN.{ℤ, pos, negsuc, _+ℤ_, _-ℤ_, _*ℤ_, +ℤ-idr}
 use lib.ListN.{length, getD, List·getD-map}
 use Rattle.whole.specs.Bound.{Within, AllWithin, floorDiv}
 use Rattle.whole.specs.Sum.{sum, sumℤ, all}
-use Rattle.whole.specs.Table.{table, blocks}
+use Rattle.whole.specs.Table.{table, blocks, at}
 use Rattle.whole.proofs.Cases.{cond-no, ne→neqb}
 use Rattle.whole.proofs.BoundLaws.{within-le, within-mul, within-pos, within-sum}
 use Rattle.whole.proofs.SumLaws.{sum-mono, sumℤ-cong, all-at}
@@ -18,13 +18,10 @@ use Rattle.whole.proofs.TableLaws.{length-table, getD-table, table-all, table-c
 use Rattle.whole.proofs.Sizes.{peak-at}
 use Rattle.rules.specs.Field.{quadratic}
 use Rattle.rules.specs.Stages.{placeWind, advection}
-use Rattle.rules.proofs.StageBounds.{quadratic-tame, placeWind-within, lineBound, advection-within}
-use Rattle.tendency.specs.Line.{at, weighedWind, alongLine, withEnds, lineAt, lineNodes, localTendency}
+use Rattle.rules.proofs.StageBounds.{weights, weight-is, quadratic-tame, placeWind-within, lineBound, advection-within}
+use Rattle.tendency.specs.Line.{weighedWind, alongLine, withEnds, lineAt, lineNodes, localTendency}
 
 -- ---- the code's tables
-abbrev pub weights : List ℤ
-weights = pos 1 ∷ pos 4 ∷ pos 1 ∷ []
-
 abbrev pub westShares : List ℤ
 westShares = pos 2 ∷ pos 1 ∷ pos 0 ∷ []
 
@@ -36,10 +33,6 @@ derivatives = negsuc 2 ∷ pos 4 ∷ negsuc 0 ∷ negsuc 0 ∷ pos 0 ∷ pos 1 �
 
 abbrev pub shifts : List ℕ
 shifts = 13 ∷ 15 ∷ 13 ∷ 15 ∷ 17 ∷ 15 ∷ 13 ∷ 15 ∷ 13 ∷ []
-
-pub weight-is : (q : ℕ) → getD weights q (pos 0) ≡ pos (quadratic .lineWeight q)
-unfolding quadratic
-weight-is q = List·getD-map pos (1 ∷ 4 ∷ 1 ∷ []) q 0
 
 pub west-is : (q : ℕ) → getD westShares q (pos 0) ≡ pos (quadratic .westShare q)
 unfolding quadratic

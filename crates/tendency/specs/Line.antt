@@ -4,15 +4,11 @@ use mathlib.Core.List.{List}
 use Prim.Native.Nat.{ℕ, _+_, _*_, _/_, _%_}
 use lib.Dec.{eqb}
 use lib.IntN.{ℤ, pos, _+ℤ_, _-ℤ_, _*ℤ_}
-use lib.ListN.{getD}
+use Rattle.whole.specs.Table.{at}
 use Rattle.whole.specs.Bound.{floorDiv}
 use Rattle.whole.specs.Sum.{sumℤ}
 use Rattle.rules.specs.Field.{quadratic}
 use Rattle.rules.specs.Stages.{node, placeWind, advection}
-
--- number k of a list
-abbrev pub at : List ℤ → ℕ → ℤ
-at l k = getD l k (pos 0)
 
 -- the wind at place q between two faces, times the place's weight
 abbrev pub weighedWind : ℤ → ℤ → ℕ → ℤ

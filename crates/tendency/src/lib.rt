@@ -4,8 +4,8 @@ ghost use mathlib.Core.Path.{_≡_};
 ghost use Prim.Native.Nat.{_+_, _*_, _≤_, _<_};
 ghost use lib.ListN.{length};
 ghost use Rattle.whole.specs.Bound.{Within, Are, AllWithin};
-ghost use Rattle.whole.specs.Table.{table};
-ghost use Rattle.tendency.specs.Line.{at, weighedWind, alongLine, withEnds, lineAt, lineNodes, localTendency};
+ghost use Rattle.whole.specs.Table.{table, at};
+ghost use Rattle.tendency.specs.Line.{weighedWind, alongLine, withEnds, lineAt, lineNodes, localTendency};
 
 // Document 01's ω, and the shares of the west and the east wind at each place between two faces.
 const WEIGHTS: [i64; 3] = [1, 4, 1];

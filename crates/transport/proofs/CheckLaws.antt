@@ -2,55 +2,29 @@
 use mathlib.Core.Path.{_≡_, refl, sym, ap, subst, _∙_}
 use mathlib.Core.Bool.{Bool, true, false, _&&_}
 use mathlib.Core.List.{List, [], _∷_, _++_}
-use Prim.Native.Nat.{ℕ, zero, suc, _+_, _*_, _≤_, _<_}
-use native.Mathlib.Numerals.{add-one}
-use native.Mathlib.Decide.{ℕ-discrete}
+use Prim.Native.Nat.{ℕ, _+_, _*_, _≤_, _<_}
 use native.Mathlib.Omega.{arith}
 use lib.Dec.{T, leb, ltb, leb→le, ltb→lt}
 use lib.IntN.{ℤ, natAbs}
 use lib.ListN.{length, take, drop}
-use Rattle.whole.specs.Sum.{all}
 use Rattle.whole.specs.Table.{overwrite}
 use Rattle.whole.proofs.Cases.{both-yes}
 use Rattle.whole.proofs.SumLaws.{all-at}
 use Rattle.rules.specs.declared.Shape.{Shape}
 use Rattle.rules.specs.Answers.{Answer, accepted, refused, Check, check, answer, plain}
-use Rattle.rules.specs.Field.{quadratic, admitted, elements, faces, workNeeded, fieldLength, tracerLength, part, withPart, total, limit, sound, remainder, weightSum}
+use Rattle.rules.specs.Field.{quadratic, admitted, faces, workNeeded, fieldLength, tracerLength, part, withPart, total}
 use Rattle.rules.specs.Step.{tracerStep}
-use Rattle.rules.specs.Calls.{Operation, step, Lent, windInRange, windAt, windSound, lentEnough, soundIfThere, checks, done, call, totalReading, reportAfter, WorkAfter}
+use Rattle.rules.specs.Calls.{Operation, step, Lent, lengthsLent, windInRange, windAt, windSound, lentEnough, soundIfThere, checks, done, call, totalReading, reportAfter, WorkAfter}
 use Rattle.rules.proofs.AnswerLaws.{Passed, answer-ind}
-use Rattle.rules.proofs.FieldLaws.{Ranges, ranges}
+use Rattle.rules.proofs.FieldLaws.{Ranges, ranges, total-small, sound-there}
 use Rattle.field.proofs.CheckLaws.{prefix-refused, prefix-accepted}
 use Rattle.grid.specs.Place.{Fine}
 use Rattle.upwind.specs.Upwind.{Calm}
-use Rattle.transport.specs.Checks.{lentOf}
-
--- ---- a test of all indices
-pub all-more : (n : ℕ) (f : ℕ → Bool) → all n f ≡ true → f n ≡ true → all (n + 1) f ≡ true
-unfolding all
-all-more n f e h = rw (add-one n, e, h)
-
-pub all-fails : (n : ℕ) (f : ℕ → Bool) (k : ℕ) → k < n → f k ≡ false → all n f ≡ false
-unfolding all
-all-fails zero f k h e = let c : ⊥ = omega arith in absurd c
-all-fails (suc n) f k h e = go (ℕ-discrete k n) (λ l. all-fails n f k l e)
-  where
-    last : (a b : Bool) → b ≡ false → (a && b) ≡ false
-    last true b q = q
-    last false b q = refl
-
-    first : (a b : Bool) → a ≡ false → (a && b) ≡ false
-    first true b q = let z : _≡_ {A = ℕ} 0 1 = cc in absurd (omega arith)
-    first false b q = refl
-
-    go : Dec (k ≡ n) → (k < n → all n f ≡ false) → (all n f && f n) ≡ false
-    go (yes q) ih = last (all n f) (f n) (ap f (sym q) ∙ e)
-    go (no q) ih = first (all n f) (f n) (ih (omega (arith, q)))
 
 -- ---- the call's answer, by its tests
 module _ (g : Shape) (s : ℕ) (f : List ℕ) (wind : List ℤ) (rl wl : ℕ) where
   abbrev op : Operation Lent
-  op = step (lentOf wind rl wl)
+  op = step (lengthsLent wind rl wl)
 
   abbrev p : List ℕ
   p = part quadratic g s f
@@ -113,15 +87,6 @@ module _ (g : Shape) (s : ℕ) (f : List ℕ) (wind : List ℤ) (rl wl : ℕ) wh
   unfolding windSound
   winds-calm long t = record { long = long; small = λ f l. record { within = leb→le (natAbs (windAt wind f)) 1024 (all-at (faces g) (λ f. windInRange (windAt wind f)) t f l) } }
 
-  there : (b : Bool) → T b → T (soundIfThere quadratic g b p) → T (sound quadratic g p)
-  unfolding soundIfThere
-  there true t h = h
-  there false t h = absurd t
-
-  total-small : T (sound quadratic g p) → total quadratic g p ≤ limit
-  unfolding sound
-  total-small t = leb→le _ _ (both-yes (all (elements g) (λ e. ltb (remainder quadratic p e) (weightSum quadratic))) (leb (total quadratic g p) limit) t .1)
-
   abbrev all-checks : List Check
   all-checks = check 2 (admitted g) ∷ check 4 enough ∷ check 5 (windSound g wind) ∷ last-two
 
@@ -143,7 +108,7 @@ module _ (g : Shape) (s : ℕ) (f : List ℕ) (wind : List ℤ) (rl wl : ℕ) wh
         calm = winds-calm (leb→le _ _ (w .0)) (c .1 .1 .0);
         reports = leb→le _ _ (q .0);
         works = leb→le _ _ (q .1);
-        light = total-small (there (ltb s (g .tracers)) (c .1 .1 .1 .1 .0) (c .1 .1 .1 .0));
+        light = total-small quadratic g p (sound-there quadratic g p (ltb s (g .tracers)) (c .1 .1 .1 .1 .0) (c .1 .1 .1 .0));
         answers = e;
       }
 

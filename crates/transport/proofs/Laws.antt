@@ -1,7 +1,7 @@
 -- The target's sum as the machine makes it, and lists of blocks.
-use mathlib.Core.Path.{_≡_, refl, sym, ap, subst, _∙_}
-use mathlib.Core.List.{List, _++_}
-use Prim.Native.Nat.{ℕ, zero, suc, _+_, _*_, _≤_, _<_}
+use mathlib.Core.Path.{_≡_, sym, ap, subst, _∙_}
+use mathlib.Core.List.{List}
+use Prim.Native.Nat.{ℕ, _+_, _*_, _≤_, _<_}
 use native.Mathlib.Omega.{arith}
 use lib.ListN.{length, take, drop}
 use lib.IntN.{ℤ, pos, _+ℤ_, _-ℤ_}
@@ -9,7 +9,7 @@ use mir.Syntax.{w64, w32}
 use mir.Val.{toZ, ofZ}
 use Rattle.whole.specs.Bound.{Within}
 use Rattle.whole.specs.Parts.{positive}
-use Rattle.whole.specs.Table.{blocks}
+use Rattle.whole.specs.Table.{blocks, at}
 use Rattle.whole.proofs.WholeLaws.{positive-le}
 use Rattle.whole.proofs.BoundLaws.{within-le, within-add, within-sub}
 use Rattle.whole.proofs.Sizes.{exacts, exact}
@@ -21,7 +21,6 @@ use Rattle.rules.specs.Correction.{target}
 use Rattle.rules.proofs.LimiterLaws.{closed-cong}
 use Rattle.rules.proofs.StepLaws.{length-closed}
 use Rattle.limiter.specs.Sizes.{Tentative}
-use Rattle.upwind.specs.Upwind.{at}
 use Rattle.stages.specs.Advance.{section}
 use Rattle.transport.specs.Finish.{Finished, massOf, tentativeOf, newElement}
 
@@ -38,11 +37,6 @@ module _ (m a b c d : ℤ) (hm : Within 100000000 m) (ha : Within 100000000 a) (
 
   pub sum-within : Within 500000000 (m -ℤ a +ℤ b -ℤ c +ℤ d)
   sum-within = within-le (within-add (within-sub (within-add (within-sub hm ha) hb) hc) hd) (omega arith)
-
-pub blocks-cong : {A : Type 0} (n : ℕ) (f h : ℕ → List A) → ((e : ℕ) → e < n → f e ≡ h e) → blocks n f ≡ blocks n h
-unfolding blocks
-blocks-cong zero f h q = refl
-blocks-cong (suc n) f h q = λ i. blocks-cong n f h (λ e l. q e (omega arith)) i ++ q n (omega arith) i
 
 pub positive-small : {n : ℕ} (z : ℤ) → Within n z → positive z ≤ n
 positive-small z h = omega (arith, positive-le z, h .within)

@@ -14,14 +14,14 @@ use lib.Signed.{nonNeg, _≤ℤ_}
 use Rattle.whole.specs.Bound.{Within, AllWithin}
 use Rattle.whole.specs.Parts.{positive, negative}
 use Rattle.whole.specs.Sum.{all}
-use Rattle.whole.specs.Table.{table, blocks, overwrite}
+use Rattle.whole.specs.Table.{table, blocks, overwrite, at}
 use Rattle.whole.specs.Written.{Written}
 use lib.Arith.{digits-div, digits-mod}
 use Rattle.whole.proofs.Cases.{cond-ind}
 use Rattle.whole.proofs.BoundLaws.{within-le, within-pos}
 use Rattle.whole.proofs.OverwriteLaws.{part-at, part-size, length-overwrite, overwrite-inside, overwrite-above}
 use Rattle.whole.proofs.SumLaws.{all-at}
-use Rattle.whole.proofs.TableLaws.{getD-table}
+use Rattle.whole.proofs.TableLaws.{getD-table, blocks-cong}
 use Rattle.whole.proofs.WholeLaws.{positive-pos, abs-parts}
 use Rattle.rules.specs.declared.Shape.{Shape}
 use Rattle.rules.specs.Field.{quadratic, elements, faces, northFace, elementLength, cell, remainder, mass, total}
@@ -38,14 +38,13 @@ use Rattle.rules.proofs.LimiterLaws.{closed-cong}
 use Rattle.rules.proofs.StageBounds.{quadratic-tame, ψ-within, flux-within}
 use Rattle.rules.proofs.StepLaws.{report-is, report-length, report-le, goal-above}
 use Rattle.grid.specs.Place.{Fine}
-use Rattle.upwind.specs.Upwind.{at, Calm}
+use Rattle.upwind.specs.Upwind.{Calm}
 use Rattle.stages.specs.Advance.{section}
 use Rattle.stages.proofs.StagesLaws.{Holds}
 use Rattle.fluxes.specs.Face.{eastFlux, northFlux}
 use Rattle.fluxes.proofs.FluxLaws.{east-flux-is, north-flux-is}
 use Rattle.correction.specs.Amounts.{NotNegative, Light, fluxesAt, massesAt, outflowsAt, lentFluxes, localOutflow, limitedFace, limitedEast, limitedNorth, Amounts}
 use Rattle.transport.specs.Finish.{Finished, massOf, tentativeOf, newElement}
-use Rattle.transport.proofs.Laws.{blocks-cong}
 
 not-below : (n : ℕ) → pos 0 ≤ℤ pos n
 not-below n = record { le = le→leb 0 n (omega arith) }

@@ -4,13 +4,13 @@ use mathlib.Core.List.{List}
 use Prim.Native.Nat.{ℕ, _+_, _*_, _≤_, _<_}
 use lib.IntN.{ℤ}
 use lib.ListN.{length}
+use Rattle.whole.specs.Table.{at}
 use Rattle.whole.specs.Bound.{Within}
 use Rattle.whole.specs.Parts.{positive, negative}
 use Rattle.rules.specs.declared.Shape.{Shape}
 use Rattle.rules.specs.Field.{quadratic, elements, faces}
 use Rattle.rules.specs.Limiter.{closed}
 use Rattle.rules.specs.Correction.{target}
-use Rattle.upwind.specs.Upwind.{at}
 use Rattle.stages.specs.Advance.{section}
 use Rattle.correction.specs.Amounts.{NotNegative, massesAt}
 

@@ -1,3 +1,2 @@
 -- What the step's leaves ask and answer.
 pub mod Finish
-pub mod Checks

@@ -7,9 +7,8 @@ ghost use lib.Dec.{leb};
 ghost use lib.ListN.{length};
 ghost use Rattle.rules.specs.Answers.{outcome, plain};
 ghost use Rattle.rules.specs.Field.{quadratic, faces, workNeeded, fieldLength};
-ghost use Rattle.rules.specs.Calls.{step, lent, call, windSound, reportAfter, WorkAfter};
+ghost use Rattle.rules.specs.Calls.{step, lengthsLent, lent, call, windSound, reportAfter, WorkAfter};
 ghost use Rattle.field.specs.Places.{Sized};
-ghost use Rattle.transport.specs.Checks.{lentOf};
 use rules::Outcome;
 use rules::Reading;
 use rules::Refusal;
@@ -59,7 +58,7 @@ fn check(
     shape: Shape,
     tracer: usize,
 ) -> Outcome
-    ensures { λ r. ⌜ outcome r ≡ plain (call quadratic shape tracer (step (lentOf (now (wind .entry)) report work)) (now (field .entry)) .reply) ⌝ }
+    ensures { λ r. ⌜ outcome r ≡ plain (call quadratic shape tracer (step (lengthsLent (now (wind .entry)) report work)) (now (field .entry)) .reply) ⌝ }
 {
     if !field::places::admitted(shape) {
         return Outcome::Refused(Refusal::BadShape);

@@ -4,13 +4,13 @@ ghost use mathlib.Core.Path.{_≡_};
 ghost use Prim.Native.Nat.{_+_, _*_, _≤_};
 ghost use lib.ListN.{length};
 ghost use Rattle.whole.specs.Parts.{positive};
-ghost use Rattle.whole.specs.Table.{blocks, overwrite};
+ghost use Rattle.whole.specs.Table.{blocks, overwrite, at};
 ghost use Rattle.rules.specs.Field.{quadratic, elements, faces, total};
 ghost use Rattle.rules.specs.Correction.{target};
 ghost use Rattle.rules.specs.Step.{tracerStep};
 ghost use Rattle.rules.specs.Calls.{windAt};
 ghost use Rattle.grid.specs.Place.{Fine, Placed};
-ghost use Rattle.upwind.specs.Upwind.{at, Calm};
+ghost use Rattle.upwind.specs.Upwind.{Calm};
 ghost use Rattle.transport.specs.Finish.{Finished, massOf, newElement};
 use rules::Shape;
 

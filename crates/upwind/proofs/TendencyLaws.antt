@@ -10,7 +10,7 @@ use lib.IntN.{ℤ, pos, _+ℤ_, _-ℤ_, _*ℤ_}
 use lib.ListN.{length, getD}
 use lib.Signed.{nonNeg}
 use Rattle.whole.specs.Bound.{Within, AllWithin, floorDiv}
-use Rattle.whole.specs.Table.{table}
+use Rattle.whole.specs.Table.{table, at}
 use Rattle.whole.proofs.Cases.{cond-ind, cond-yes, cond-no}
 use Rattle.whole.proofs.BoundLaws.{within-le, within-pos}
 use Rattle.whole.proofs.SumLaws.{sumℤ-cong}
@@ -23,7 +23,7 @@ use Rattle.rules.specs.Calls.{windAt}
 use Rattle.rules.proofs.GridLaws.{west-lt, south-lt, east-west, north-south, looks-east, looks-north, behind-lt, ahead-lt, behind-east, ahead-east, behind-north, ahead-north}
 use Rattle.grid.specs.Place.{Fine, Placed}
 use Rattle.tendency.specs.Line.{localTendency}
-use Rattle.upwind.specs.Upwind.{at, asStage, Calm, sideWinds, lasts, strides, upwindStart, sideStart, upwindPlace, Reached}
+use Rattle.upwind.specs.Upwind.{asStage, Calm, sideWinds, lasts, strides, upwindStart, sideStart, upwindPlace, Reached}
 use Rattle.upwind.proofs.Laws.{four, behind-inside, ahead-inside}
 
 -- ---- what an advection and a tendency read

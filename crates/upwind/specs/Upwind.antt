@@ -2,19 +2,17 @@
 use mathlib.Core.Bool.{cond}
 use mathlib.Core.List.{List, [], _∷_}
 use Prim.Native.Nat.{ℕ, _+_, _*_, _/_, _%_, _≤_, _<_}
-use lib.IntN.{ℤ, pos}
+use lib.IntN.{ℤ, pos, negsuc}
 use lib.ListN.{length, getD}
 use lib.Signed.{nonNeg}
+use Rattle.whole.specs.Table.{at}
 use Rattle.whole.specs.Bound.{Within}
 use Rattle.rules.specs.declared.Shape.{Shape}
 use Rattle.rules.specs.Field.{faces, northFace}
 use Rattle.rules.specs.Grid.{west, east, south, north}
 use Rattle.rules.specs.Calls.{windAt}
 
--- number i of a list, and a list as a stage
-abbrev pub at : List ℤ → ℕ → ℤ
-at l i = getD l i (pos 0)
-
+-- a list as a stage
 abbrev pub asStage : List ℤ → ℕ → ℕ → ℤ
 asStage l e k = at l (e * 9 + k)
 
@@ -26,6 +24,10 @@ pub record Calm (g : Shape) (wind : List ℤ) : Type 0 where
 -- the winds of an element's west, east, south and north face
 abbrev pub sideWinds : Shape → (ℕ → ℤ) → ℕ → List ℤ
 sideWinds g c e = c (west g e) ∷ c e ∷ c (northFace g (south g e)) ∷ c (northFace g e) ∷ []
+
+-- 0 for a wind that is not negative, else -1
+abbrev pub sign : ℤ → ℤ
+sign c = cond (nonNeg c) (pos 0) (negsuc 0)
 
 -- where the upwind values of a face begin: `last` is the first node of the line that lies at the face in the element behind it
 unfoldable pub upwindStart : ℤ → ℕ → ℕ → ℕ → ℕ

@@ -3,13 +3,13 @@
 ghost use mathlib.Core.Path.{_≡_};
 ghost use Prim.Native.Nat.{_+_, _*_, _≤_, _<_};
 ghost use lib.ListN.{length};
-ghost use Rattle.whole.specs.Bound.{AllWithin};
-ghost use Rattle.whole.specs.Table.{table};
+ghost use Rattle.whole.specs.Bound.{Are, AllWithin};
+ghost use Rattle.whole.specs.Table.{table, at};
 ghost use Rattle.rules.specs.Field.{quadratic, elements};
 ghost use Rattle.rules.specs.Stages.{tendency};
 ghost use Rattle.rules.specs.Calls.{windAt};
 ghost use Rattle.grid.specs.Place.{Placed};
-ghost use Rattle.upwind.specs.Upwind.{at, asStage, Calm, sideWinds, upwindStart, sideStart, upwindPlace, Reached};
+ghost use Rattle.upwind.specs.Upwind.{asStage, Calm, sideWinds, sign, upwindStart, sideStart, upwindPlace, Reached};
 use rules::Shape;
 
 // Where an upwind line begins in the element behind a face: the lines of the west, the east, the south and the north side.
@@ -33,14 +33,24 @@ fn side_winds(wind: &[i16], shape: Shape, e: usize) -> [i64; 4]
     ]
 }
 
+// 0 for a wind that is not negative, else -1.
+fn sign(c: i64) -> i64
+    ensures { λ r. ⌜ Are 1 r (sign c) ⌝ }
+{
+    if c >= 0 { 0 } else { -1 }
+}
+
 // Where the upwind values of a face begin in a stage: in the element behind it where the wind is not negative, else in the one ahead.
+// Computed from the sign: a branch here would be guessed wrong at every second face of a wind that often turns.
 pub fn upwind_start(c: i64, behind: usize, ahead: usize, last: usize) -> usize
     requires { ⌜ behind < 4096 ⌝ }
     requires { ⌜ ahead < 4096 ⌝ }
     requires { ⌜ last < 9 ⌝ }
     ensures { λ r. ⌜ r ≡ upwindStart c behind ahead last ⌝ }
 {
-    if c >= 0 { behind * 9 + last } else { ahead * 9 }
+    let in_behind = (behind * 9 + last) as i64;
+    let in_ahead = (ahead * 9) as i64;
+    (in_behind + sign(c) * (in_behind - in_ahead)) as usize
 }
 
 // The same for an element's four sides.

@@ -1,6 +1,6 @@
 -- Laws of sums over a number of terms.
 use mathlib.Core.Path.{_≡_, refl, sym, ap, ap₂, subst, _∙_}
-use mathlib.Core.Bool.{Bool}
+use mathlib.Core.Bool.{Bool, true, false, _&&_}
 use mathlib.Core.Logic.{_≢_}
 use Prim.Native.Nat.{ℕ, zero, suc, _+_, _*_, _≤_, _<_}
 use native.Mathlib.Nat.{mul-zero, mul-add, mul-comm, le-refl, add-zero, add-suc}
@@ -136,6 +136,27 @@ all-at (suc n) f t i h =
     go : Dec (i ≡ n) → T (f n) → (i < n → T (f i)) → T (f i)
     go (yes e) t ih = subst (λ k. T (f k)) (sym e) t
     go (no ne) t ih = ih (omega (arith, ne))
+
+pub all-more : (n : ℕ) (f : ℕ → Bool) → all n f ≡ true → f n ≡ true → all (n + 1) f ≡ true
+unfolding all
+all-more n f e h = rw (add-one n, e, h)
+
+pub all-fails : (n : ℕ) (f : ℕ → Bool) (k : ℕ) → k < n → f k ≡ false → all n f ≡ false
+unfolding all
+all-fails zero f k h e = let c : ⊥ = omega arith in absurd c
+all-fails (suc n) f k h e = go (ℕ-discrete k n) (λ l. all-fails n f k l e)
+  where
+    last : (a b : Bool) → b ≡ false → (a && b) ≡ false
+    last true b q = q
+    last false b q = refl
+
+    first : (a b : Bool) → a ≡ false → (a && b) ≡ false
+    first true b q = let z : _≡_ {A = ℕ} 0 1 = cc in absurd (omega arith)
+    first false b q = refl
+
+    go : Dec (k ≡ n) → (k < n → all n f ≡ false) → (all n f && f n) ≡ false
+    go (yes q) ih = last (all n f) (f n) (ap f (sym q) ∙ e)
+    go (no q) ih = first (all n f) (f n) (ih (omega (arith, q)))
 
 -- ---- one term more, and more terms
 pub sumℤ-more : (n : ℕ) (f : ℕ → ℤ) → sumℤ (n + 1) f ≡ sumℤ n f +ℤ f n

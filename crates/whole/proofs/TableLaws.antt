@@ -57,6 +57,11 @@ module _ {ℓ} {A : Type ℓ} where
   table-cong zero f g h = refl
   table-cong (suc n) f g h = λ i. table-cong n f g (λ j l. h j (omega arith)) i ++ (h n (omega arith) i ∷ [])
 
+  pub blocks-cong : (n : ℕ) (f g : ℕ → List A) → ((i : ℕ) → i < n → f i ≡ g i) → blocks n f ≡ blocks n g
+  unfolding blocks
+  blocks-cong zero f g h = refl
+  blocks-cong (suc n) f g h = λ i. blocks-cong n f g (λ j l. h j (omega arith)) i ++ h n (omega arith) i
+
   -- a statement on every entry and on what stands for an entry that is not there
   pub table-all : (P : A → Type 0) (n : ℕ) (f : ℕ → A) (d : A) → P d → ((i : ℕ) → i < n → P (f i)) → (i : ℕ) → P (getD (table n f) i d)
   table-all P n f d none all′ i = go (decLt i n)

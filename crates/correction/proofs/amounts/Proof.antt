@@ -7,6 +7,7 @@ use lib.IntN.{pos}
 use lib.ListN.{length, take, drop, length-set}
 use mir.Syntax.{w64}
 use mir.Facts.{toZ-pos}
+use Rattle.whole.specs.Table.{at}
 use Rattle.whole.specs.Bound.{AllWithin}
 use Rattle.whole.specs.Written.{Written}
 use Rattle.whole.proofs.OverwriteLaws.{part-size}
@@ -15,7 +16,6 @@ use Rattle.whole.proofs.WrittenLaws.{written-none, written-next, written-moved,
 use Rattle.rules.specs.Field.{quadratic, elements, faces, mass}
 use Rattle.grid.specs.Place.{Placed}
 use Rattle.grid.proofs.Laws.{elements-le}
-use Rattle.upwind.specs.Upwind.{at}
 use Rattle.correction.specs.Amounts.{fluxesAt, massesAt, lentFluxes, localOutflow}
 use Rattle.correction.proofs.Laws.{mass-part}
 use Rattle.correction.proofs.amounts.Statement.{statement}

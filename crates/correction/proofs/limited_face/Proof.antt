@@ -7,6 +7,7 @@ use lib.ListN.{length}
 use lib.Signed.{nonNeg}
 use mir.Syntax.{w64}
 use mir.Val.{toZ, ofZ}
+use Rattle.whole.specs.Table.{at}
 use Rattle.whole.specs.Bound.{Within}
 use Rattle.whole.specs.Parts.{positive}
 use Rattle.whole.proofs.Cases.{cond-ind}
@@ -14,7 +15,6 @@ use Rattle.whole.proofs.Sizes.{back-is, read-back, are-eq}
 use Rattle.rules.specs.Field.{elements}
 use Rattle.rules.specs.Correction.{cut}
 use Rattle.grid.proofs.Laws.{elements-le}
-use Rattle.upwind.specs.Upwind.{at}
 use Rattle.correction.specs.Amounts.{NotNegative, fluxesAt, massesAt, outflowsAt, limitedFace}
 use Rattle.correction.proofs.limited_face.Statement.{statement}
 use Rattle.correction.proofs.limited_face.Tie as tie

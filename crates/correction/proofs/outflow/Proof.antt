@@ -4,13 +4,12 @@ use native.Mathlib.Omega.{arith}
 use lib.IntN.{pos}
 use lib.ListN.{length}
 use mir.Syntax.{w64}
+use Rattle.whole.specs.Table.{at}
 use Rattle.whole.specs.Parts.{positive, negative}
 use Rattle.whole.proofs.Sizes.{sizes, fits, within, are-eq, back-is}
 use Rattle.rules.specs.Field.{elements}
-use Rattle.rules.specs.Grid.{west, south}
 use Rattle.rules.proofs.GridLaws.{west-lt, south-lt}
 use Rattle.grid.proofs.Laws.{elements-le}
-use Rattle.upwind.specs.Upwind.{at}
 use Rattle.correction.proofs.Laws.{added}
 use Rattle.correction.proofs.outflow.Statement.{statement}
 use Rattle.correction.proofs.outflow.Tie as tie

@@ -8,12 +8,13 @@ use lib.IntN.{pos, _+ℤ_, _*ℤ_}
 use lib.ListN.{length, getD}
 use mir.Syntax.{w64}
 use mir.Val.{toZ}
+use Rattle.whole.specs.Table.{at}
 use Rattle.whole.specs.Bound.{Within, Are}
 use Rattle.whole.specs.Sum.{sumℤ}
 use Rattle.whole.proofs.SumLaws.{sumℤ-more}
 use Rattle.whole.proofs.Sizes.{sizes, exacts, fits, exact, are-eq}
-use Rattle.upwind.specs.Upwind.{at}
-use Rattle.fluxes.proofs.Laws.{weights, term, terms-are, terms-within, reach}
+use Rattle.rules.proofs.StageBounds.{weights}
+use Rattle.fluxes.proofs.Laws.{term, terms-are, terms-within, reach}
 use Rattle.fluxes.proofs.face_sum.Statement.{statement}
 use Rattle.fluxes.proofs.face_sum.Tie as tie
 

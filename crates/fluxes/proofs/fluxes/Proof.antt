@@ -5,6 +5,7 @@ use native.Mathlib.Omega.{arith}
 use lib.ListN.{length, length-set}
 use mir.Syntax.{w64}
 use mir.Val.{toZ, ofZ}
+use Rattle.whole.specs.Table.{at}
 use Rattle.whole.specs.Bound.{Within}
 use Rattle.whole.specs.Written.{Written}
 use Rattle.whole.proofs.Sizes.{sizes-wide, fits, widened, read-back}
@@ -15,7 +16,6 @@ use Rattle.rules.specs.Calls.{windAt}
 use Rattle.rules.proofs.GridLaws.{east-lt, north-lt}
 use Rattle.grid.specs.Place.{Placed}
 use Rattle.grid.proofs.Laws.{elements-le}
-use Rattle.upwind.specs.Upwind.{at}
 use Rattle.stages.specs.Advance.{section}
 use Rattle.fluxes.specs.Face.{Staged, faceFlux, eastFlux, northFlux}
 use Rattle.fluxes.proofs.Laws.{flux-kept}
@@ -151,8 +151,8 @@ east-made c =
     let w = i .before .loop .work in
     let p = placed i .inside in
     read-back w64 (c .face-flux .ensures) tt
-    ∙ (λ k. faceFlux w l (widened (windAt (b .args .wind .now) e) (c .before .before .face-flux-arg2 .given) k) e (c .before .east .ensures k) 0)
-    ∙ flux-kept w (b .args .work .now) l (windAt (b .args .wind .now) e) e (east (b .args .shape) e) 0 (omega arith) (omega (arith, p)) (omega (arith, east-inside i)) (stages-kept i)
+    ∙ (λ k. faceFlux w l (widened (windAt (b .args .wind .now) e) (c .before .before .face-flux-arg2 .given) k) e (c .before .east .ensures k) 2 3)
+    ∙ flux-kept w (b .args .work .now) l (windAt (b .args .wind .now) e) e (east (b .args .shape) e) 2 3 (omega arith) (omega (arith, p)) (omega (arith, east-inside i)) (stages-kept i)
 
 north-made : (c : tie.After-face-flux2 Inv-loop μ-loop) → toZ w64 (ofZ w64 (c .face-flux2 .result)) ≡ northFlux (c .before .before .before .before .before .before .before .before .before .before .before .args .shape) (windAt (c .before .before .before .before .before .before .before .before .before .before .before .args .wind .now)) (c .before .before .before .before .before .before .before .before .before .before .before .args .work .now) (c .before .before .before .before .before .before .before .before .before .loop .e)
 north-made c =
@@ -163,8 +163,8 @@ north-made c =
     let w = i .before .loop .work in
     let p = placed i .inside in
     read-back w64 (c .face-flux2 .ensures) tt
-    ∙ (λ k. faceFlux w l (widened (windAt (b .args .wind .now) (northFace (b .args .shape) e)) (c .before .before .face-flux-arg4 .given) k) e (c .before .north .ensures k) 1)
-    ∙ flux-kept w (b .args .work .now) l (windAt (b .args .wind .now) (northFace (b .args .shape) e)) e (north (b .args .shape) e) 1 (omega arith) (omega (arith, p)) (omega (arith, north-inside i)) (stages-kept i)
+    ∙ (λ k. faceFlux w l (widened (windAt (b .args .wind .now) (northFace (b .args .shape) e)) (c .before .before .face-flux-arg4 .given) k) e (c .before .north .ensures k) 6 1)
+    ∙ flux-kept w (b .args .work .now) l (windAt (b .args .wind .now) (northFace (b .args .shape) e)) e (north (b .args .shape) e) 6 1 (omega arith) (omega (arith, p)) (omega (arith, north-inside i)) (stages-kept i)
 
 loop-again : tie.Need-loop-again Inv-loop μ-loop
 loop-again c =

@@ -1,9 +1,9 @@
 use mathlib.Core.Path.{_∙_}
 use borrow.Author.Needs.{needs}
 use lib.IntN.{+ℤ-idr}
+use Rattle.whole.specs.Table.{at}
 use Rattle.rules.specs.Field.{quadratic}
 use Rattle.rules.specs.Limiter.{closedUnlevelled}
-use Rattle.limiter.specs.Sizes.{at}
 use Rattle.limiter.proofs.close_unlevelled.Statement.{statement}
 use Rattle.limiter.proofs.close_unlevelled.Tie as tie
 

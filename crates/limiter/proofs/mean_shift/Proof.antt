@@ -6,13 +6,13 @@ use lib.Signed.{leZ-yes}
 use mir.Syntax.{w64}
 use mir.Val.{toZ, ofZ}
 use mir.Facts.{toZ-pos}
+use Rattle.whole.specs.Table.{at}
 use Rattle.whole.specs.Bound.{Within, Are, floorDiv}
 use Rattle.whole.specs.Sum.{sum, sumℤ}
 use Rattle.whole.proofs.BoundLaws.{within-le, within-sub, within-floor, within-pos}
 use Rattle.whole.proofs.Sizes.{sizes, exacts, fits, within, exact, back-is}
 use Rattle.rules.specs.Field.{quadratic, weightSum}
 use Rattle.rules.specs.Limiter.{meanShift}
-use Rattle.limiter.specs.Sizes.{at}
 use Rattle.limiter.proofs.mean_shift.Statement.{statement}
 use Rattle.limiter.proofs.mean_shift.Tie as tie
 

@@ -8,7 +8,7 @@ use lib.IntN.{pos}
 use lib.ListN.{length, take, drop}
 use mir.Facts.{toZ-ofZ}
 use Rattle.whole.specs.Bound.{Within, AllWithin}
-use Rattle.whole.specs.Table.{table}
+use Rattle.whole.specs.Table.{table, at}
 use Rattle.whole.specs.Written.{Written}
 use Rattle.whole.proofs.OverwriteLaws.{part-size}
 use Rattle.whole.proofs.TableLaws.{getD-table}
@@ -18,7 +18,7 @@ use Rattle.rules.specs.Stages.{tendency}
 use Rattle.rules.specs.Calls.{windAt}
 use Rattle.grid.specs.Place.{Placed}
 use Rattle.grid.proofs.Laws.{elements-le}
-use Rattle.upwind.specs.Upwind.{at, asStage}
+use Rattle.upwind.specs.Upwind.{asStage}
 use Rattle.stages.specs.Advance.{section, newSum, newValue, gridSums, gridValues}
 use Rattle.stages.proofs.Laws.{flat, three-sections, factor-is, tendencies-small}
 use Rattle.stages.proofs.advance.Statement.{statement}

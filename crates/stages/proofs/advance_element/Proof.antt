@@ -6,11 +6,11 @@ use lib.IntN.{ℤ, _+ℤ_, _*ℤ_}
 use lib.ListN.{length, length-set}
 use mir.Syntax.{w64}
 use mir.Val.{toZ, ofZ}
+use Rattle.whole.specs.Table.{at}
 use Rattle.whole.specs.Bound.{Within, floorDiv}
 use Rattle.whole.specs.Written.{Written}
 use Rattle.whole.proofs.WrittenLaws.{written-none, written-next}
 use Rattle.whole.proofs.Sizes.{sizes, exacts, fits, within, exact, are-eq, are-at, peak-at}
-use Rattle.upwind.specs.Upwind.{at}
 use Rattle.stages.specs.Advance.{divisor, elementSums, elementValues}
 use Rattle.stages.proofs.Laws.{factors, factor-is}
 use Rattle.stages.proofs.advance_element.Statement.{statement}

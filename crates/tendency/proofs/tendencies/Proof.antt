@@ -6,10 +6,10 @@ use native.Mathlib.Omega.{arith}
 use lib.ListN.{length, drop, length-set}
 use mir.Syntax.{w64}
 use Rattle.whole.specs.Bound.{AllWithin}
-use Rattle.whole.specs.Table.{table}
+use Rattle.whole.specs.Table.{table, at}
 use Rattle.whole.proofs.TableLaws.{fill-next}
 use Rattle.whole.proofs.Sizes.{sizes, exacts-shift, fits, within, exact, back-is}
-use Rattle.tendency.specs.Line.{at, lineNodes}
+use Rattle.tendency.specs.Line.{lineNodes}
 use Rattle.tendency.proofs.Laws.{nodes-within, combined, all-combined, shift-lt}
 use Rattle.tendency.proofs.tendencies.Statement.{statement}
 use Rattle.tendency.proofs.tendencies.Tie as tie

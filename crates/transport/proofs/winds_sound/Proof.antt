@@ -9,7 +9,7 @@ use mir.Facts.{toZ-ofZ}
 use Rattle.whole.specs.Sum.{all}
 use Rattle.rules.specs.Field.{faces}
 use Rattle.rules.specs.Calls.{windInRange, windAt, windSound}
-use Rattle.transport.proofs.CheckLaws.{all-more, all-fails}
+use Rattle.whole.proofs.SumLaws.{all-more, all-fails}
 use Rattle.transport.proofs.winds_sound.Statement.{statement}
 use Rattle.transport.proofs.winds_sound.Tie as tie
 

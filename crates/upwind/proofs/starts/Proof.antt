@@ -5,9 +5,9 @@ use borrow.Author.Needs.{needs}
 use native.Mathlib.Omega.{arith}
 use lib.ListN.{length, getD, drop, length-set}
 use mir.Facts.{toZ-ofZ}
-use Rattle.whole.specs.Table.{table}
+use Rattle.whole.specs.Table.{table, at}
 use Rattle.whole.proofs.TableLaws.{fill-next}
-use Rattle.upwind.specs.Upwind.{at, behinds, aheads, lasts, upwindStart}
+use Rattle.upwind.specs.Upwind.{behinds, aheads, lasts, upwindStart}
 use Rattle.grid.proofs.Laws.{elements-le}
 use Rattle.upwind.proofs.Laws.{behind-inside, ahead-inside, last-lt}
 use Rattle.upwind.proofs.starts.Statement.{statement}

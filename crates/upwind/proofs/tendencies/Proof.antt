@@ -4,10 +4,10 @@ use Prim.Native.Nat.{ℕ, _+_, _*_}
 use borrow.Author.Needs.{needs}
 use native.Mathlib.Omega.{arith}
 use Rattle.whole.specs.Bound.{AllWithin}
-use Rattle.whole.specs.Table.{table}
+use Rattle.whole.specs.Table.{table, at}
 use Rattle.rules.specs.Calls.{windAt}
 use Rattle.tendency.specs.Line.{localTendency}
-use Rattle.upwind.specs.Upwind.{at, sideWinds, sideStart, upwindPlace, Reached}
+use Rattle.upwind.specs.Upwind.{sideWinds, sideStart, upwindPlace, Reached}
 use Rattle.upwind.proofs.TendencyLaws.{gathered, reached, winds-small, picked-small}
 use Rattle.upwind.proofs.tendencies.Statement.{statement}
 use Rattle.upwind.proofs.tendencies.Tie as tie

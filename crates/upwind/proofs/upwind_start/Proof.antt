@@ -1,26 +1,61 @@
-use mathlib.Core.Path.{sym, ap, _∙_}
+use mathlib.Core.Path.{_≡_, ap, _∙_}
+use mathlib.Core.Bool.{cond}
+use Prim.Native.Nat.{_+_, _*_}
 use borrow.Author.Needs.{needs}
-use lib.Signed.{leZ}
-use lib.IntN.{pos}
+use native.Mathlib.Omega.{arith}
+use lib.IntN.{pos, natAbs}
+use lib.Signed.{nonNeg}
+use mir.Syntax.{w64}
+use mir.Val.{toZ}
 use mir.Facts.{toZ-ofZ}
-use Rattle.upwind.proofs.Laws.{sign-is, start-behind, start-ahead}
+use Rattle.whole.specs.Bound.{Within}
+use Rattle.whole.proofs.Sizes.{sizes, fits}
+use Rattle.upwind.specs.Upwind.{sign}
+use Rattle.upwind.proofs.Laws.{place-small, chosen-small, machinePlace, place-is, start-is}
 use Rattle.upwind.proofs.upwind_start.Statement.{statement}
 use Rattle.upwind.proofs.upwind_start.Tie as tie
 
+mul-in-behind : tie.Need-mul-in-behind
+mul-in-behind c = search needs
+
+add-in-behind : tie.Need-add-in-behind
+add-in-behind c = search needs
+
+cast-in-behind : tie.Need-cast-in-behind
+cast-in-behind c = search needs
+
+mul-in-ahead : tie.Need-mul-in-ahead
+mul-in-ahead c = search needs
+
+cast-in-ahead : tie.Need-cast-in-ahead
+cast-in-ahead c = search needs
+
+sign-requires : tie.Need-sign-requires
+sign-requires c κs = search needs
+
+-- the sizes of the two places
+places-small : (c : tie.Start) → (Within 40960 (toZ w64 (c .args .behind * 9 + c .args .last))) × (Within 40960 (toZ w64 (c .args .ahead * 9)))
+places-small c = (place-small (c .args .behind * 9 + c .args .last) (omega arith), place-small (c .args .ahead * 9) (omega arith))
+
+sub-result : tie.Need-sub-result
+sub-result c = let h = places-small (c .before) in fits (search sizes depth 20) tt
+
 mul-result : tie.Need-mul-result
-mul-result c = search needs
+mul-result c = let h = places-small (c .before) in let s = c .sign .ensures in fits (search sizes depth 20) tt
 
 add-result : tie.Need-add-result
-add-result c = search needs
+add-result c = let h = places-small (c .before) in let s = c .sign .ensures in fits (search sizes depth 20) tt
 
-mul-result-2 : tie.Need-mul-result-2
-mul-result-2 c = search needs
+made : (c : tie.After-sign) → machinePlace (c .sign .result) (toZ w64 (c .before .args .behind * 9 + c .before .args .last)) (toZ w64 (c .before .args .ahead * 9))
+    ≡ pos (cond (nonNeg (c .before .args .c)) (c .before .args .behind * 9 + c .before .args .last) (c .before .args .ahead * 9))
+made c = let a = c .before .args in place-is (a .c) (c .sign .result) (a .behind * 9 + a .last) (a .ahead * 9) (c .sign .ensures .same ∙ ap sign (toZ-ofZ (c .before .fits .c))) (omega arith) (omega arith)
+
+cast-result : tie.Need-cast-result
+cast-result c = let a = c .before .args in
+    rw (made c) (tt, record { fits = omega (arith, chosen-small (a .c) (a .behind * 9 + a .last) (a .ahead * 9) 40960 (omega arith) (omega arith)) })
 
 returns : tie.Need-returns
-returns c = let a = c .before .args in start-behind (a .c) (a .behind) (a .ahead) (a .last) (sym (sign-is (a .c)) ∙ ap (leZ (pos 0)) (sym (toZ-ofZ (c .before .fits .c))) ∙ c .if1 .taken)
-
-returns-2 : tie.Need-returns-2
-returns-2 c = let a = c .before .args in start-ahead (a .c) (a .behind) (a .ahead) (a .last) (sym (sign-is (a .c)) ∙ ap (leZ (pos 0)) (sym (toZ-ofZ (c .before .fits .c))) ∙ c .if1 .left)
+returns c = let a = c .before .args in ap natAbs (made c) ∙ start-is (a .c) (a .behind) (a .ahead) (a .last)
 
 pub upwind-start-spec : {M : Type 1} → statement M
-upwind-start-spec = tie.close (tie.spec mul-result add-result mul-result-2 returns returns-2)
+upwind-start-spec = tie.close (tie.spec mul-in-behind add-in-behind cast-in-behind mul-in-ahead cast-in-ahead sign-requires sub-result mul-result add-result cast-result returns)

@@ -5,9 +5,9 @@ use borrow.Author.Needs.{needs}
 use native.Mathlib.Omega.{arith}
 use lib.ListN.{length, getD, drop, length-set}
 use mir.Facts.{toZ-ofZ}
-use Rattle.whole.specs.Table.{table}
+use Rattle.whole.specs.Table.{table, at}
 use Rattle.whole.proofs.TableLaws.{fill-next}
-use Rattle.upwind.specs.Upwind.{at, upwindPlace}
+use Rattle.upwind.specs.Upwind.{upwindPlace}
 use Rattle.upwind.proofs.Laws.{stride-is}
 use Rattle.upwind.proofs.upwind_values.Statement.{statement}
 use Rattle.upwind.proofs.upwind_values.Tie as tie

@@ -5,9 +5,8 @@ use borrow.Author.Needs.{needs}
 use native.Mathlib.Omega.{arith}
 use lib.ListN.{length, drop, length-set}
 use mir.Facts.{toZ-ofZ}
-use Rattle.whole.specs.Table.{table}
+use Rattle.whole.specs.Table.{table, at}
 use Rattle.whole.proofs.TableLaws.{fill-next}
-use Rattle.upwind.specs.Upwind.{at}
 use Rattle.upwind.proofs.values.Statement.{statement}
 use Rattle.upwind.proofs.values.Tie as tie
 

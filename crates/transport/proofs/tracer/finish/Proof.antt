@@ -5,14 +5,13 @@ use borrow.Author.Needs.{needs}
 use native.Mathlib.Omega.{arith}
 use native.Mathlib.Nat.{add-sub-cancel-left}
 use lib.ListN.{length, take, drop, drop-of-length-le}
-use Rattle.whole.specs.Table.{blocks}
+use Rattle.whole.specs.Table.{blocks, at}
 use Rattle.whole.proofs.OverwriteLaws.{part-size}
 use Rattle.whole.proofs.TableLaws.{fill-block, length-filled}
 use Rattle.rules.specs.Field.{quadratic, elements}
 use Rattle.rules.specs.Limiter.{closed}
 use Rattle.grid.specs.Place.{Placed}
 use Rattle.grid.proofs.Laws.{elements-le}
-use Rattle.upwind.specs.Upwind.{at}
 use Rattle.transport.specs.Finish.{newElement}
 use Rattle.transport.proofs.Laws.{new-length, lent-values}
 use Rattle.transport.proofs.tracer.finish.Statement.{statement}

@@ -1,21 +1,17 @@
-use mathlib.Core.Path.{_≡_, refl, sym, ap, subst, _∙_}
-use Prim.Native.Nat.{ℕ, _≤_, _<_, _+_, _*_}
-use borrow.Author.Needs.{needs}
+use mathlib.Core.Path.{_≡_, sym, ap, subst, _∙_}
+use Prim.Native.Nat.{_≤_, _<_, _+_}
 use native.Mathlib.Omega.{arith}
 use lib.IntN.{ℤ, pos, natAbs, _+ℤ_, _-ℤ_}
 use lib.ListN.{length}
-use mir.Syntax.{w64, w32}
-use mir.Val.{toZ, ofZ}
+use Rattle.whole.specs.Table.{at}
 use Rattle.whole.specs.Bound.{Within}
 use Rattle.whole.specs.Parts.{positive}
 use Rattle.whole.proofs.Sizes.{sizes, fits}
 use Rattle.whole.proofs.WholeLaws.{pos-positive, above-positive}
 use Rattle.rules.specs.Field.{elements, northFace}
-use Rattle.rules.specs.Grid.{west, south}
 use Rattle.rules.specs.Correction.{target}
 use Rattle.rules.proofs.GridLaws.{west-lt, south-lt}
 use Rattle.grid.proofs.Laws.{elements-le}
-use Rattle.upwind.specs.Upwind.{at}
 use Rattle.correction.specs.Amounts.{massesAt}
 use Rattle.transport.specs.Finish.{massOf}
 use Rattle.transport.proofs.Laws.{B, C, read-sum, sum-within, positive-small}
