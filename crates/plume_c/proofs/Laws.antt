@@ -1,18 +1,80 @@
--- An answer's number, from whether it was accepted.
-use mathlib.Core.Path.{_≡_, refl, ap, _∙_}
-use Prim.Native.Nat.{ℕ}
-use Rattle.rules.specs.Answers.{Answer, accepted, refused, plain}
-use Rattle.plume_c.specs.Numbers.{code}
+-- Answers as numbers.
+use mathlib.Core.Path.{_≡_, refl, sym, ap, subst, _∙_}
+use mathlib.Core.List.{List}
+use mathlib.Core.Logic.{_≢_}
+use Prim.Native.Nat.{ℕ, zero, suc, _≤_}
+use native.Mathlib.Omega.{arith}
+use lib.IntN.{ℤ, pos, negℤ, _-ℤ_, +ℤ-idl}
+use mir.Syntax.{w64}
+use mir.Val.{toZ, ofZ}
+use mir.Facts.{toZ-pos}
+use Rattle.whole.specs.Bound.{Within, Are}
+use Rattle.whole.proofs.BoundLaws.{within-neg}
+use Rattle.whole.proofs.Sizes.{exacts, exact}
+use Rattle.rules.specs.declared.Shape.{Shape}
+use Rattle.rules.specs.declared.Refusal.{Refusal}
+use Rattle.rules.specs.declared.Refusal.the-variants.{NoFieldFile, BadShape, BadOffsets, ShortBuffer, WindOutOfRange, UnsoundTracer, NoSuchTracer, NoSuchElement, TotalAboveLimit, MassTooSmall}
+use Rattle.rules.specs.Answers.{Answer, accepted, refused, plain, number}
+use Rattle.rules.specs.Field.{quadratic}
+use Rattle.rules.specs.Calls.{massReading, totalReading}
+use Rattle.field.proofs.CheckLaws.{found, held}
+use Rattle.plume_c.specs.Numbers.{faceOf, code, numberOr, Small}
 
-code-plain : {A : Type 0} (a : Answer A) → code (plain a) ≡ code a
+-- whether a call was accepted is all that its code says
+pub code-plain : {A : Type 0} (a : Answer A) → code (plain a) ≡ code a
 unfolding code plain
 code-plain (accepted x) = refl
 code-plain (refused n) = refl
 
-pub code-accepted : {A : Type 0} (a : Answer A) → accepted tt ≡ plain a → 0 ≡ code a
-unfolding code
-code-accepted a e = ap code e ∙ code-plain a
+-- a call's code from what its answer says
+pub code-of : {A : Type 0} {r : ℕ} {b : Answer (Unit {0})} (a : Answer A) → r ≡ code b → b ≡ plain a → r ≡ code a
+code-of a e p = e ∙ ap code p ∙ code-plain a
 
-pub code-refused : {A : Type 0} (a : Answer A) (n : ℕ) → refused n ≡ plain a → n ≡ code a
-unfolding code
-code-refused a n e = ap code e ∙ code-plain a
+-- ---- readings are small
+pub total-answers : (g : Shape) (s : ℕ) (f : List ℕ) → Small (totalReading quadratic g s f)
+total-answers g s f = record { small = λ n e. found g s f n e .small }
+
+pub mass-answers : (g : Shape) (s i j : ℕ) (f : List ℕ) → Small (massReading quadratic g s i j f)
+mass-answers g s i j f = record { small = λ n e. held g s i j f n e .small }
+
+-- ---- an answered number, and a refusal's, as signed numbers
+pub number-is : (a : Answer ℕ) (n : ℕ) → Small a → a ≡ accepted n → Are 100000000 (toZ w64 n) (numberOr a)
+unfolding numberOr
+number-is a n h e =
+    let small = h .small n e in
+    record { same = toZ-pos w64 (omega arith) ∙ sym (ap numberOr e); bound = subst (λ x. Within 100000000 (numberOr x)) (sym e) (record { within = small }) }
+
+number-le : (r : Refusal) → number r ≤ 10
+number-le NoFieldFile = omega arith
+number-le BadShape = omega arith
+number-le BadOffsets = omega arith
+number-le ShortBuffer = omega arith
+number-le WindOutOfRange = omega arith
+number-le UnsoundTracer = omega arith
+number-le NoSuchTracer = omega arith
+number-le NoSuchElement = omega arith
+number-le TotalAboveLimit = omega arith
+number-le MassTooSmall = omega arith
+
+pub refusal-small : (n : ℕ) (r : Refusal) → n ≡ number r → Within 10 (toZ w64 n)
+refusal-small n r e = let l = number-le r in subst (Within 10) (sym (toZ-pos w64 {n = n} (omega arith))) (record { within = omega arith })
+
+negated : (z : ℤ) → Within 10 z → toZ w64 (ofZ w64 (pos 0 -ℤ z)) ≡ pos 0 -ℤ z
+negated z h = exact (search exacts depth 20) tt
+
+pub refusal-is : (a : Answer ℕ) (n : ℕ) (r : Refusal) → n ≡ number r → a ≡ refused (number r) → Are 100000000 (toZ w64 (ofZ w64 (pos 0 -ℤ toZ w64 n))) (numberOr a)
+unfolding numberOr
+refusal-is a n r e q =
+    let l = number-le r in
+    let same : toZ w64 (ofZ w64 (pos 0 -ℤ toZ w64 n)) ≡ numberOr a = negated (toZ w64 n) (refusal-small n r e) ∙ ap (λ z. pos 0 -ℤ z) (toZ-pos w64 {n = n} (omega arith)) ∙ +ℤ-idl (negℤ (pos n)) ∙ ap (λ m. negℤ (pos m)) e ∙ sym (ap numberOr q) in
+    record { same = same; bound = subst (λ x. Within 100000000 (numberOr x)) (sym q) (within-neg {a = pos (number r)} (record { within = omega arith })) }
+
+-- ---- the face of a wind call, by its way
+module _ (i j : ℕ) (c : ℤ) where
+  pub face-of : (way w : ℕ) → way ≡ w → faceOf w i j c ≡ faceOf way i j c
+  face-of way w e = ap (λ x. faceOf x i j c) (sym e)
+
+  pub face-none : (way : ℕ) → way ≢ 0 → way ≢ 1 → faceOf 2 i j c ≡ faceOf way i j c
+  face-none zero e f = absurd (e refl)
+  face-none (suc zero) e f = absurd (f refl)
+  face-none (suc (suc w)) e f = refl

@@ -1,13 +1,126 @@
 // Calls for C: numbers and buffers in, a number out. include/plume.h declares them.
-// An answer is 0 where the call is accepted, else the refusal's number.
+// An answer is 0 where the call is accepted, else the refusal's number; a reading's is its number, or the refusal's number negated.
 ghost use mathlib.Core.Path.{_≡_};
 ghost use Rattle.rules.specs.Field.{quadratic};
-ghost use Rattle.rules.specs.Calls.{step, lent, call, reportAfter, WorkAfter};
-ghost use Rattle.plume_c.specs.Numbers.{shapeOf, code};
-use rules::Outcome;
+ghost use Rattle.rules.specs.Calls.{load, emission, withdrawal, step, lent, call, reportAfter, WorkAfter, massReading, totalReading, freshReply, freshField, freshWind, windReply, windAfter};
+ghost use Rattle.plume_c.specs.Numbers.{shapeOf, faceOf, code, numberOr};
 use rules::Shape;
 
-// A step of one tracer.
+mod numbers; // numbers.rt: answers and faces as numbers
+
+// Zeros in field and wind.
+#[no_mangle]
+pub extern "C" fn plume_fresh(
+    field: &mut [u32],
+    wind: &mut [i16],
+    nx: usize,
+    ny: usize,
+    smokes: usize,
+) -> u8
+    ensures { λ r. ⌜ r ≡ code (freshReply quadratic (shapeOf nx ny smokes) (now (field .entry)) (now (wind .entry))) ⌝ }
+    ensures { λ _. ⌜ now (field .exit) ≡ freshField quadratic (shapeOf nx ny smokes) (now (field .entry)) (now (wind .entry)) ⌝ }
+    ensures { λ _. ⌜ now (wind .exit) ≡ freshWind quadratic (shapeOf nx ny smokes) (now (field .entry)) (now (wind .entry)) ⌝ }
+{
+    let shape = Shape {
+        nx,
+        ny,
+        tracers: smokes,
+    };
+    numbers::code(field::fresh(field, wind, shape))
+}
+
+// A new wind for one face.
+#[no_mangle]
+pub extern "C" fn plume_wind(
+    wind: &mut [i16],
+    nx: usize,
+    ny: usize,
+    smokes: usize,
+    way: u8,
+    i: usize,
+    j: usize,
+    c: i16,
+) -> u8
+    ensures { λ r. ⌜ r ≡ code (windReply (shapeOf nx ny smokes) (faceOf way i j c) (now (wind .entry))) ⌝ }
+    ensures { λ _. ⌜ now (wind .exit) ≡ windAfter (shapeOf nx ny smokes) (faceOf way i j c) (now (wind .entry)) ⌝ }
+{
+    let shape = Shape {
+        nx,
+        ny,
+        tracers: smokes,
+    };
+    let face = numbers::face(way, i, j, c);
+    numbers::code(field::wind(wind, shape, face))
+}
+
+// Nine numbers for each element of a smoke.
+#[no_mangle]
+pub extern "C" fn plume_load(
+    field: &mut [u32],
+    numbers: &[u32],
+    nx: usize,
+    ny: usize,
+    smokes: usize,
+    smoke: usize,
+) -> u8
+    ensures { λ r. ⌜ r ≡ code (call quadratic (shapeOf nx ny smokes) smoke (load (now (numbers .entry))) (now (field .entry)) .reply) ⌝ }
+    ensures { λ _. ⌜ now (field .exit) ≡ call quadratic (shapeOf nx ny smokes) smoke (load (now (numbers .entry))) (now (field .entry)) .field ⌝ }
+{
+    let shape = Shape {
+        nx,
+        ny,
+        tracers: smokes,
+    };
+    numbers::code(field::load(field, numbers, shape, smoke))
+}
+
+// Emission of q into an element.
+#[no_mangle]
+pub extern "C" fn plume_emission(
+    field: &mut [u32],
+    nx: usize,
+    ny: usize,
+    smokes: usize,
+    smoke: usize,
+    i: usize,
+    j: usize,
+    q: u64,
+) -> u8
+    ensures { λ r. ⌜ r ≡ code (call quadratic (shapeOf nx ny smokes) smoke (emission i j q) (now (field .entry)) .reply) ⌝ }
+    ensures { λ _. ⌜ now (field .exit) ≡ call quadratic (shapeOf nx ny smokes) smoke (emission i j q) (now (field .entry)) .field ⌝ }
+{
+    let shape = Shape {
+        nx,
+        ny,
+        tracers: smokes,
+    };
+    numbers::code(field::emission(field, shape, smoke, i, j, q))
+}
+
+// Withdrawal of q from an element.
+#[no_mangle]
+pub extern "C" fn plume_withdrawal(
+    field: &mut [u32],
+    nx: usize,
+    ny: usize,
+    smokes: usize,
+    smoke: usize,
+    i: usize,
+    j: usize,
+    q: u64,
+) -> u8
+    ensures { λ r. ⌜ r ≡ code (call quadratic (shapeOf nx ny smokes) smoke (withdrawal i j q) (now (field .entry)) .reply) ⌝ }
+    ensures { λ _. ⌜ now (field .exit) ≡ call quadratic (shapeOf nx ny smokes) smoke (withdrawal i j q) (now (field .entry)) .field ⌝ }
+{
+    let shape = Shape {
+        nx,
+        ny,
+        tracers: smokes,
+    };
+    numbers::code(field::withdrawal(field, shape, smoke, i, j, q))
+}
+
+// A step of one smoke.
 #[no_mangle]
 pub extern "C" fn plume_step(
     field: &mut [u32],
@@ -29,9 +142,45 @@ pub extern "C" fn plume_step(
         ny,
         tracers: smokes,
     };
-    let answer = transport::step(field, wind, report, work, shape, smoke);
-    match answer {
-        Outcome::Accepted => 0,
-        Outcome::Refused(r) => rules::refusal_number(r),
-    }
+    numbers::code(transport::step(field, wind, report, work, shape, smoke))
+}
+
+// What an element holds.
+#[no_mangle]
+pub extern "C" fn plume_mass(
+    field: &[u32],
+    nx: usize,
+    ny: usize,
+    smokes: usize,
+    smoke: usize,
+    i: usize,
+    j: usize,
+) -> i64
+    ensures { λ r. ⌜ r ≡ numberOr (massReading quadratic (shapeOf nx ny smokes) smoke i j (now (field .entry))) ⌝ }
+{
+    let shape = Shape {
+        nx,
+        ny,
+        tracers: smokes,
+    };
+    numbers::number_or(field::mass(field, shape, smoke, i, j))
+}
+
+// A smoke's total.
+#[no_mangle]
+pub extern "C" fn plume_total(
+    field: &[u32],
+    nx: usize,
+    ny: usize,
+    smokes: usize,
+    smoke: usize,
+) -> i64
+    ensures { λ r. ⌜ r ≡ numberOr (totalReading quadratic (shapeOf nx ny smokes) smoke (now (field .entry))) ⌝ }
+{
+    let shape = Shape {
+        nx,
+        ny,
+        tracers: smokes,
+    };
+    numbers::number_or(field::total(field, shape, smoke))
 }

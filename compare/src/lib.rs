@@ -1,0 +1,9 @@
+//! What the binaries share: random sound fields, and field files sound and damaged.
+//!
+//! - `calls`: random lists of calls on the library and on the reference, compared after each call.
+//! - `hostile`: damaged and random files through the program, compared with the reference's output.
+//! - `samples`: the sample files and what the reference prints for them.
+
+pub mod content;
+pub mod damage;
+pub mod files;

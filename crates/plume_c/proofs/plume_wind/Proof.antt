@@ -1,0 +1,32 @@
+use mathlib.Core.Path.{ap, _∙_}
+use mir.Facts.{toZ-ofZ}
+use Rattle.rules.specs.Calls.{windReply, windAfter}
+use Rattle.plume_c.specs.Numbers.{shapeOf, faceOf, code}
+use borrow.Author.Needs.{needs}
+use Rattle.plume_c.proofs.plume_wind.Statement.{statement}
+use Rattle.plume_c.proofs.plume_wind.Tie as tie
+
+face-requires : tie.Need-face-requires
+face-requires c κs = search needs
+
+wind-requires : tie.Need-wind-requires
+wind-requires c κs = search needs
+
+code-requires : tie.Need-code-requires
+code-requires c κs = search needs
+
+same-length : tie.Need-same-length
+same-length c = search needs
+
+returns : tie.Need-returns
+returns c =
+    let d = c .before .before .wind .ensures in
+    let f = c .before .before .before .before .face .ensures in
+    let b = c .before .before .before .before .before in
+    let e = f ∙ ap (faceOf (b .args .way) (b .args .i) (b .args .j)) (toZ-ofZ (b .fits .c)) in
+    let g = shapeOf (b .args .nx) (b .args .ny) (b .args .smokes) in
+    (c .code .ensures ∙ ap code (d .0 ∙ ap (λ x. windReply g x (b .args .wind .now)) e), d .1 ∙ ap (λ x. windAfter g x (b .args .wind .now)) e)
+
+pub plume-wind-spec : {M : Type 1} → statement M
+plume-wind-spec =
+    tie.close (tie.spec face-requires wind-requires code-requires same-length returns)

@@ -1,0 +1,58 @@
+// Answers and faces as numbers.
+ghost use mathlib.Core.Path.{_≡_};
+ghost use Rattle.whole.specs.Bound.{Are};
+ghost use Rattle.rules.specs.Answers.{outcome, reading};
+ghost use Rattle.plume_c.specs.Numbers.{faceOf, code, numberOr, Small};
+use rules::Face;
+use rules::Outcome;
+use rules::Reading;
+use rules::Way;
+
+// 0 for an accepted call, else the refusal's number.
+pub(crate) fn code(answer: Outcome) -> u8
+    ensures { λ r. ⌜ r ≡ code (outcome answer) ⌝ }
+{
+    match answer {
+        Outcome::Accepted => 0,
+        Outcome::Refused(r) => rules::refusal_number(r),
+    }
+}
+
+// The number that is answered, or the refusal's number negated. A leaf: the number is at most the limit.
+pub(crate) fn number_or(answer: Reading) -> i64
+    requires { ⌜ Small (reading answer) ⌝ }
+    ensures { λ r. ⌜ Are 100000000 r (numberOr (reading answer)) ⌝ }
+{
+    match answer {
+        Reading::Number(n) => n as i64,
+        Reading::Refused(r) => 0 - (rules::refusal_number(r) as i64),
+    }
+}
+
+// The face of element (i, j) that looks east (way 0) or north (way 1). No grid has a column 64: any other way is no face.
+pub(crate) fn face(way: u8, i: usize, j: usize, wind: i16) -> Face
+    ensures { λ r. ⌜ r ≡ faceOf way i j wind ⌝ }
+{
+    if way == 0 {
+        return Face {
+            way: Way::East,
+            i,
+            j,
+            wind,
+        };
+    }
+    if way == 1 {
+        return Face {
+            way: Way::North,
+            i,
+            j,
+            wind,
+        };
+    }
+    Face {
+        way: Way::East,
+        i: 64,
+        j: 0,
+        wind,
+    }
+}

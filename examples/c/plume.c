@@ -1,0 +1,90 @@
+/* Uses the library from C: a fresh field, a wind, an emission, steps, totals, and a field file written and read back. Each answer is
+ * checked; the program ends with 1 at the first that is not as it should be. */
+#include <inttypes.h>
+#include <stdio.h>
+#include <stdlib.h>
+#include <string.h>
+
+#include "plume.h"
+
+enum {
+    NX = 6,
+    NY = 4,
+    SMOKES = 2,
+    ELEMENTS = NX * NY,
+    FIELD = 10 * ELEMENTS * SMOKES,
+    FACES = 2 * ELEMENTS,
+    WORK = 64 * ELEMENTS,
+    FILE_LENGTH = 2 * FACES + 4 * FIELD + 4 * (SMOKES + 1) + 12,
+    EMITTED = 100000
+};
+
+static uint32_t field[FIELD], field_again[FIELD];
+static int16_t wind[FACES], wind_again[FACES];
+static int32_t report[FACES];
+static int64_t work[WORK];
+static uint8_t file[FILE_LENGTH];
+
+/* Ends the program where a call answers something else than it should. */
+static void expect(const char *call, int64_t answer, int64_t right)
+{
+    if (answer != right) {
+        printf("%s answered %" PRId64 ", not %" PRId64 "\n", call, answer, right);
+        exit(1);
+    }
+}
+
+/* An east wind that is stronger in the north. */
+static void set_wind(void)
+{
+    for (size_t j = 0; j < NY; j++)
+        for (size_t i = 0; i < NX; i++)
+            expect("wind", plume_wind(wind, FACES, NX, NY, SMOKES, PLUME_EAST, i, j, (int16_t)(256 * (j + 1))), 0);
+    expect("wind of 1025", plume_wind(wind, FACES, NX, NY, SMOKES, PLUME_NORTH, 0, 0, 1025), 5);
+}
+
+static int64_t mass(size_t i, size_t j)
+{
+    return plume_mass(field, FIELD, NX, NY, SMOKES, 0, i, j);
+}
+
+/* Steps smoke 0 and prints what its row j = 2 holds. The smoke must stay all there. */
+static void step(int number)
+{
+    expect("step", plume_step(field, FIELD, wind, FACES, report, FACES, work, WORK, NX, NY, SMOKES, 0), 0);
+    printf("step %d:", number);
+    for (size_t i = 0; i < NX; i++)
+        printf(" %6" PRId64, mass(i, 2));
+    printf("   over the east face of (1, 2): %" PRId32 "\n", report[2 * NX + 1]);
+    expect("total", plume_total(field, FIELD, NX, NY, SMOKES, 0), EMITTED);
+}
+
+/* A field that is written to a file is the field that is read from it. */
+static void there_and_back(void)
+{
+    int64_t length = plume_write(file, FILE_LENGTH, field, FIELD, wind, FACES, NX, NY, SMOKES);
+    expect("write", length, FILE_LENGTH);
+    int64_t shape = plume_read(field_again, FIELD, wind_again, FACES, file, (size_t)length);
+    expect("read", shape, NX + 256 * NY + 65536 * SMOKES);
+    expect("field read back", memcmp(field, field_again, sizeof field), 0);
+    expect("wind read back", memcmp(wind, wind_again, sizeof wind), 0);
+    printf("file: %" PRId64 " bytes, read back the same\n", length);
+    expect("read of a file cut short", plume_read(field, FIELD, wind, FACES, file, (size_t)length - 1), -1);
+}
+
+int main(void)
+{
+    expect("fresh", plume_fresh(field, FIELD, wind, FACES, NX, NY, SMOKES), 0);
+    set_wind();
+    expect("emission", plume_emission(field, FIELD, NX, NY, SMOKES, 0, 1, 2, EMITTED), 0);
+    for (int number = 1; number <= 4; number++)
+        step(number);
+    there_and_back();
+    expect("withdrawal of too much", plume_withdrawal(field, FIELD, NX, NY, SMOKES, 0, 1, 2, EMITTED + 1), 10);
+    expect("withdrawal", plume_withdrawal(field, FIELD, NX, NY, SMOKES, 0, 1, 2, (uint64_t)mass(1, 2)), 0);
+    expect("mass of an emptied element", mass(1, 2), 0);
+    printf("totals: %" PRId64 " and %" PRId64 "\n", plume_total(field, FIELD, NX, NY, SMOKES, 0),
+           plume_total(field, FIELD, NX, NY, SMOKES, 1));
+    printf("all calls answered as they should\n");
+    return 0;
+}
