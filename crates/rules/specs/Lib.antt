@@ -9,3 +9,4 @@ pub mod Step
 pub mod Calls
 pub mod Ledger
 pub mod FieldFile
+pub mod Program

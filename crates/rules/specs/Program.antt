@@ -1,0 +1,133 @@
+-- Document 01, "Field file": what the program prints, as bytes.
+use mathlib.Core.Bool.{Bool, cond}
+use mathlib.Core.List.{List, [], _∷_, _++_}
+use Prim.Native.Nat.{ℕ, zero, suc, _+_, _*_, _/_, _%_}
+use lib.Dec.{ltb}
+use lib.IntN.{ℤ, pos, negsuc}
+use lib.ListN.{length}
+use Rattle.whole.specs.Table.{blocks, at}
+use Rattle.rules.specs.declared.Shape.{Shape}
+use Rattle.rules.specs.declared.Way.{Way}
+use Rattle.rules.specs.declared.Way.the-variants.{East, North}
+use Rattle.rules.specs.Answers.{Answer, accepted, refused}
+use Rattle.rules.specs.Field.{quadratic}
+use Rattle.rules.specs.Grid.{faceIndex}
+use Rattle.rules.specs.Calls.{step, lengthsLent, call, totalReading}
+use Rattle.rules.specs.FieldFile.{readReply, readField, readWind}
+
+-- ---- numbers in base ten
+-- n without leading zeros: at most `more` digits before the last one
+unfoldable pub decimalBy : ℕ → ℕ → List ℕ
+decimalBy zero n = (48 + n) ∷ []
+decimalBy (suc more) n = cond (ltb n 10) ((48 + n) ∷ []) (decimalBy more (n / 10) ++ ((48 + n % 10) ∷ []))
+
+-- numbers below 10^20 are printed, so 20 digits are enough
+abbrev pub decimal : ℕ → List ℕ
+decimal n = decimalBy 19 n
+
+unfoldable pub signed : ℤ → List ℕ
+unfolding decimalBy
+signed (pos n) = decimal n
+signed (negsuc n) = 45 ∷ decimal (suc n)
+
+-- ---- lines: "Every printed line ends with a newline byte, 0A hexadecimal."
+abbrev pub space : List ℕ
+space = 32 ∷ []
+
+abbrev pub newline : List ℕ
+newline = 10 ∷ []
+
+-- the words grid, face, total and refused, each with a space after it
+abbrev pub gridWord : List ℕ
+gridWord = 103 ∷ 114 ∷ 105 ∷ 100 ∷ 32 ∷ []
+
+abbrev pub faceWord : List ℕ
+faceWord = 102 ∷ 97 ∷ 99 ∷ 101 ∷ 32 ∷ []
+
+abbrev pub totalWord : List ℕ
+totalWord = 116 ∷ 111 ∷ 116 ∷ 97 ∷ 108 ∷ 32 ∷ []
+
+abbrev pub refusedWord : List ℕ
+refusedWord = 114 ∷ 101 ∷ 102 ∷ 117 ∷ 115 ∷ 101 ∷ 100 ∷ 32 ∷ []
+
+-- the directions east and north, with a space before and after
+abbrev pub wayWord : Way → List ℕ
+wayWord East = 32 ∷ 101 ∷ 97 ∷ 115 ∷ 116 ∷ 32 ∷ []
+wayWord North = 32 ∷ 110 ∷ 111 ∷ 114 ∷ 116 ∷ 104 ∷ 32 ∷ []
+
+-- "Fields: nx, ny, K; smoke, direction, i, j, G* ..; smoke, total after the step."
+unfoldable pub gridLine : Shape → List ℕ
+unfolding decimalBy
+gridLine g = gridWord ++ (decimal (g .nx) ++ (space ++ (decimal (g .ny) ++ (space ++ (decimal (g .tracers) ++ newline)))))
+
+unfoldable pub faceLine : ℕ → Way → ℕ → ℕ → ℤ → List ℕ
+unfolding decimalBy signed
+faceLine s way i j flux = faceWord ++ (decimal s ++ (wayWord way ++ (decimal i ++ (space ++ (decimal j ++ (space ++ (signed flux ++ newline)))))))
+
+unfoldable pub totalLine : ℕ → ℕ → List ℕ
+unfolding decimalBy
+totalLine s total = totalWord ++ (decimal s ++ (space ++ (decimal total ++ newline)))
+
+-- "Any other refusal prints "refused" and its number, alone."
+unfoldable pub refusedLine : ℕ → List ℕ
+unfolding decimalBy
+refusedLine n = refusedWord ++ (decimal n ++ newline)
+
+module _ (g : Shape) (s : ℕ) where
+  -- the faces that look one way, "j outer"
+  unfoldable pub faceRow : Way → List ℤ → ℕ → List ℕ
+  unfolding blocks faceLine
+  faceRow way report j = blocks (g .nx) (λ i. faceLine s way i j (at report (faceIndex g way i j)))
+
+  unfoldable pub faceLines : Way → List ℤ → List ℕ
+  unfolding blocks faceRow
+  faceLines way report = blocks (g .ny) (faceRow way report)
+
+  -- "all east faces first"; "Face lines and the total come smoke by smoke."
+  unfoldable pub tracerLines : List ℤ → ℕ → List ℕ
+  unfolding faceLines totalLine
+  tracerLines report total = faceLines East report ++ (faceLines North report ++ totalLine s total)
+
+-- ---- the run: "reads one file from standard input, steps each smoke once in order and prints"
+-- what goes on where an answer is accepted
+abbrev pub next : {A B : Type 0} → Answer A → (A → Answer B) → Answer B
+next (accepted x) f = f x
+next (refused n) f = refused n
+
+-- the lines that are printed so far, and the field
+pub record Printed : Type 0 where
+  pub text : List ℕ
+  pub field : List ℕ
+
+-- "It lends buffers for exactly 128 elements and eight smokes": report and work
+abbrev pub reportLent : ℕ
+reportLent = 2 * 128
+
+abbrev pub workLent : ℕ
+workLent = 64 * 128
+
+module _ (g : Shape) (wind : List ℤ) where
+  -- tracer s is stepped and its lines are printed
+  unfoldable pub stepped : ℕ → List ℕ → Answer Printed
+  unfolding call totalReading tracerLines
+  stepped s field =
+      let c = call quadratic g s (step (lengthsLent wind reportLent workLent)) field in
+      next (c .reply) (λ report. next (totalReading quadratic g s (c .field)) (λ total. accepted (record { text = tracerLines g s report total; field = c .field })))
+
+  -- the first n tracers, after the line of the grid
+  unfoldable pub upTo : ℕ → List ℕ → Answer Printed
+  unfolding gridLine stepped
+  upTo zero field = accepted (record { text = gridLine g; field = field })
+  upTo (suc s) field = next (upTo s field) (λ p. next (stepped s (p .field)) (λ q. accepted (record { text = p .text ++ q .text; field = q .field })))
+
+-- what is printed in the end
+unfoldable pub told : Answer Printed → List ℕ
+unfolding refusedLine
+told (accepted p) = p .text
+told (refused n) = refusedLine n
+
+-- "Over 65,536 bytes it prints "refused 3", before any other check.": field and wind are the lent buffers
+unfoldable pub printed : List ℕ → List ℕ → List ℤ → List ℕ
+unfolding told upTo readReply readField readWind
+printed file field wind = cond (ltb 65536 (length file)) (refusedLine 3)
+    (told (next (readReply quadratic file field wind) (λ g. upTo g (readWind quadratic file field wind) (g .tracers) (readField quadratic file field wind))))
