@@ -1,0 +1,2 @@
+-- The two round trips, bottom to top.
+pub mod NumberLaws

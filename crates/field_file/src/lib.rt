@@ -1,0 +1,1 @@
+// The field file of document 01.
