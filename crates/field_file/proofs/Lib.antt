@@ -1,2 +1,4 @@
 -- The two round trips, bottom to top.
 pub mod NumberLaws
+pub mod SectionLaws
+pub mod LayoutLaws

@@ -24,7 +24,7 @@ module _ (file : List ℕ) (i : ℕ) where
   first : (p : List ℕ) → Has i p file → 0 < length p → byteAt file i ≡ getD p 0 0
   first p h l = ap (byteAt file) (sym (add-zero i)) ∙ h .at 0 l
 
-  pub has-two : (a b : ℕ) → byteAt file i ≡ a → byteAt file (i + 1) ≡ b → Has i (a ∷ b ∷ []) file
+  has-two : (a b : ℕ) → byteAt file i ≡ a → byteAt file (i + 1) ≡ b → Has i (a ∷ b ∷ []) file
   has-two a b ea eb = record { at = go }
     where
       go : (k : ℕ) → k < 2 → byteAt file (i + k) ≡ getD (a ∷ b ∷ []) k 0
@@ -43,7 +43,7 @@ module _ (file : List ℕ) (i : ℕ) where
       go (suc (suc (suc (suc k)))) h = let c : ⊥ = omega arith in absurd c
 
   -- ---- 32 bits
-  pub number-of-bytes32 : (n : ℕ) → n < 4294967296 → Has i (bytes32 n) file → number32 file i ≡ n
+  number-of-bytes32 : (n : ℕ) → n < 4294967296 → Has i (bytes32 n) file → number32 file i ≡ n
   unfolding bytes32 number32
   number-of-bytes32 n small h =
       let top : n / 16777216 % 256 ≡ n / 16777216 = omega arith in
@@ -54,7 +54,7 @@ module _ (file : List ℕ) (i : ℕ) where
       let e3 : byteAt file (i + 3) ≡ n / 16777216 % 256 = h .at 3 (lit< tt) in
       rw (e0, e1, e2, e3, top) back
 
-  pub bytes-of-number32 : Bytes file → Has i (bytes32 (number32 file i)) file
+  bytes-of-number32 : Bytes file → Has i (bytes32 (number32 file i)) file
   unfolding bytes32 number32
   bytes-of-number32 h =
       let a = byteAt file i in
@@ -81,7 +81,7 @@ module _ (file : List ℕ) (i : ℕ) where
       let e1 : byteAt file (i + 1) ≡ m / 256 % 256 = h .at 1 (lit< tt) in
       rw (e0, e1, top) (omega arith)
 
-  pub number-of-bytes16 : (z : ℤ) → natAbs z < 32768 → Has i (bytes16 z) file → number16 file i ≡ z
+  number-of-bytes16 : (z : ℤ) → natAbs z < 32768 → Has i (bytes16 z) file → number16 file i ≡ z
   unfolding bytes16 bits16 number16
   number-of-bytes16 (pos n) small h =
       let e : both ≡ n = both-of n (omega arith) h in
@@ -90,10 +90,24 @@ module _ (file : List ℕ) (i : ℕ) where
       let e : both ≡ 65535 - n = both-of (65535 - n) (omega arith) h in
       cond-no (ltb both 32768) (pos both) (negsuc (65535 - both)) (le→nltb both 32768 (omega arith)) ∙ ap negsuc (omega arith)
 
-  pub bytes-of-number16 : Bytes file → Has i (bytes16 (number16 file i)) file
+  bytes-of-number16 : Bytes file → Has i (bytes16 (number16 file i)) file
   unfolding bytes16 bits16 number16
   bytes-of-number16 h =
       let ha = h .below i in
       let hb = h .below (i + 1) in
       let e : bits16 (number16 file i) ≡ both = cond-ind (ltb both 32768) (pos both) (negsuc (65535 - both)) (λ z. bits16 z ≡ both) (λ t. refl) (λ t. omega arith) in
       rw e (has-two (both % 256) (both / 256 % 256) (omega arith) (omega arith))
+
+-- ---- a way to write a number as bytes of a fixed width and to read it back, of numbers that fit
+pub record Code {A : Type 0} (width : ℕ) (bytes : A → List ℕ) (number : List ℕ → ℕ → A) (Fits : A → Type 0) : Type 0 where
+  pub size : (x : A) → length (bytes x) ≡ width
+  pub read : (file : List ℕ) (i : ℕ) (x : A) → Fits x → Has i (bytes x) file → number file i ≡ x
+  pub written : (file : List ℕ) (i : ℕ) → Bytes file → Has i (bytes (number file i)) file
+
+pub code32 : Code 4 bytes32 number32 (λ n. n < 4294967296)
+unfolding bytes32
+code32 = record { size = λ n. refl; read = number-of-bytes32; written = bytes-of-number32 }
+
+pub code16 : Code 2 bytes16 number16 (λ z. natAbs z < 32768)
+unfolding bytes16
+code16 = record { size = λ z. refl; read = number-of-bytes16; written = bytes-of-number16 }
