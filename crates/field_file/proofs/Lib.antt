@@ -2,3 +2,5 @@
 pub mod NumberLaws
 pub mod SectionLaws
 pub mod LayoutLaws
+pub mod ReplyLaws
+pub mod SoundLaws
