@@ -4,3 +4,4 @@ pub mod SectionLaws
 pub mod LayoutLaws
 pub mod ReplyLaws
 pub mod SoundLaws
+pub mod WrittenThenRead
