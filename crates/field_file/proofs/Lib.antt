@@ -5,3 +5,4 @@ pub mod LayoutLaws
 pub mod ReplyLaws
 pub mod SoundLaws
 pub mod WrittenThenRead
+pub mod ReadThenWritten
