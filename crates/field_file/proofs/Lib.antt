@@ -6,3 +6,4 @@ pub mod ReplyLaws
 pub mod SoundLaws
 pub mod WrittenThenRead
 pub mod ReadThenWritten
+pub mod Theorem

@@ -102,8 +102,14 @@ module _ (κ : Kind) (g : Shape) where
     module _ (w : Writable) where
       pub write-accepted : writeReply κ g field wind out ≡ accepted (fileLength κ g)
       unfolding writeReply
-      write-accepted = passed-accepted write-checks (fileLength κ g) (w .ranges, (and-yes (leb (fieldLength κ g) (length field)) _ (le→leb _ _ (w .field-room))
-          (and-yes (leb (faces g) (length wind)) (leb (fileLength κ g) (length out)) (le→leb _ _ (w .wind-room)) (le→leb _ _ (w .out-room))), (w .winds, (w .tracers, tt))))
+      write-accepted = passed-accepted write-checks (fileLength κ g) (
+        w .ranges,
+        (
+          and-yes (leb (fieldLength κ g) (length field)) _ (le→leb _ _ (w .field-room))
+              (and-yes (leb (faces g) (length wind)) (leb (fileLength κ g) (length out)) (le→leb _ _ (w .wind-room)) (le→leb _ _ (w .out-room))),
+          (w .winds, (w .tracers, tt)),
+        ),
+      )
 
       pub file-written : writeFile κ g field wind out ≡ overwrite 0 (fileOf κ g field wind) out
       unfolding writeFile
