@@ -1,6 +1,7 @@
--- The search of a tracer's part: what holds of the first n elements, and what the search's three ways out say.
+-- The searches: a test of all indices, turn by turn; what holds of the first n elements of a tracer's part, and what the three ways
+-- out of its search say.
 use mathlib.Core.Path.{_≡_, refl, ap, _∙_}
-use mathlib.Core.Bool.{Bool, true, false, _&&_}
+use mathlib.Core.Bool.{Bool, true, false, not, _&&_}
 use mathlib.Core.List.{List}
 use Prim.Native.Nat.{ℕ, _+_, _*_, _≤_, _<_}
 use native.Mathlib.Decide.{le-ind}
@@ -8,10 +9,11 @@ use native.Mathlib.Nat.{mul-le-mul-right, mul-comm, suc-mul}
 use native.Mathlib.Numerals.{add-one}
 use native.Mathlib.Omega.{arith}
 use borrow.Author.Tests.{lt-leb, le-leb, lt-ltb, le-ltb}
-use lib.Dec.{ltb}
+use lib.Dec.{T, ltb}
 use lib.ListN.{getD}
 use Rattle.whole.specs.Sum.{sum, all}
-use Rattle.whole.proofs.SumLaws.{sum-more, sum-mono}
+use Rattle.whole.proofs.Cases.{either}
+use Rattle.whole.proofs.SumLaws.{sum-more, sum-mono, all-at}
 use Rattle.rules.specs.declared.Shape.{Shape}
 use Rattle.rules.specs.Field.{quadratic, elements, elementLength, weightSum, cell, remainder, mass, total, limit, sound}
 use Rattle.field.specs.Places.{tenWeights}
@@ -19,6 +21,19 @@ use Rattle.field.specs.Search.{searched}
 use Rattle.field.specs.declared.search.Total.the-variants.{Sum, Unsound}
 use Rattle.field.proofs.ElementLaws.{numbersSum, mass-is}
 
+-- ---- a test of all indices
+pub all-more : (n : ℕ) (f : ℕ → Bool) → all n f ≡ true → f n ≡ true → all (n + 1) f ≡ true
+unfolding all
+all-more n f e h = rw (add-one n, e, h)
+
+pub all-fails : (n : ℕ) (f : ℕ → Bool) (k : ℕ) → k < n → f k ≡ false → all n f ≡ false
+all-fails n f k h e = either (all n f) (λ t. let q = rw e at (all-at n f t k h) in absurd q) (λ t. none (all n f) t)
+  where
+    none : (b : Bool) → T (not b) → b ≡ false
+    none true t = absurd t
+    none false t = refl
+
+-- ---- a tracer's part
 weights-36 : weightSum quadratic ≡ 36
 unfolding weightSum quadratic sum
 weights-36 = refl

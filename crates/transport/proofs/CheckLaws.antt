@@ -2,9 +2,7 @@
 use mathlib.Core.Path.{_≡_, refl, sym, ap, subst, _∙_}
 use mathlib.Core.Bool.{Bool, true, false, _&&_}
 use mathlib.Core.List.{List, [], _∷_, _++_}
-use Prim.Native.Nat.{ℕ, zero, suc, _+_, _*_, _≤_, _<_}
-use native.Mathlib.Numerals.{add-one}
-use native.Mathlib.Decide.{ℕ-discrete}
+use Prim.Native.Nat.{ℕ, _*_, _≤_, _<_}
 use native.Mathlib.Omega.{arith}
 use lib.Dec.{T, leb, ltb, leb→le, ltb→lt}
 use lib.IntN.{ℤ, natAbs}
@@ -24,28 +22,6 @@ use Rattle.field.proofs.CheckLaws.{prefix-refused, prefix-accepted}
 use Rattle.grid.specs.Place.{Fine}
 use Rattle.upwind.specs.Upwind.{Calm}
 use Rattle.transport.specs.Checks.{lentOf}
-
--- ---- a test of all indices
-pub all-more : (n : ℕ) (f : ℕ → Bool) → all n f ≡ true → f n ≡ true → all (n + 1) f ≡ true
-unfolding all
-all-more n f e h = rw (add-one n, e, h)
-
-pub all-fails : (n : ℕ) (f : ℕ → Bool) (k : ℕ) → k < n → f k ≡ false → all n f ≡ false
-unfolding all
-all-fails zero f k h e = let c : ⊥ = omega arith in absurd c
-all-fails (suc n) f k h e = go (ℕ-discrete k n) (λ l. all-fails n f k l e)
-  where
-    last : (a b : Bool) → b ≡ false → (a && b) ≡ false
-    last true b q = q
-    last false b q = refl
-
-    first : (a b : Bool) → a ≡ false → (a && b) ≡ false
-    first true b q = let z : _≡_ {A = ℕ} 0 1 = cc in absurd (omega arith)
-    first false b q = refl
-
-    go : Dec (k ≡ n) → (k < n → all n f ≡ false) → (all n f && f n) ≡ false
-    go (yes q) ih = last (all n f) (f n) (ap f (sym q) ∙ e)
-    go (no q) ih = first (all n f) (f n) (ih (omega (arith, q)))
 
 -- ---- the call's answer, by its tests
 module _ (g : Shape) (s : ℕ) (f : List ℕ) (wind : List ℤ) (rl wl : ℕ) where
