@@ -1,7 +1,6 @@
 -- An accepted file, written again, has the same bytes.
-use mathlib.Core.Path.{_≡_, refl, sym, ap, subst, _∙_}
-use mathlib.Core.Bool.{Bool, _&&_}
-use mathlib.Core.List.{List, [], _∷_}
+use mathlib.Core.Path.{_≡_, sym, ap, subst, _∙_}
+use mathlib.Core.List.{List}
 use Prim.Native.Nat.{ℕ, _+_, _*_, _-_, _≤_, _<_}
 use native.Mathlib.Nat.{zero-add}
 use native.Mathlib.Omega.{arith}
@@ -18,7 +17,7 @@ use Rattle.rules.specs.declared.Shape.{Shape}
 use Rattle.rules.specs.Answers.{accepted}
 use Rattle.rules.specs.Field.{Kind, faces, fieldLength}
 use Rattle.rules.specs.Calls.{windAt}
-use Rattle.rules.specs.FieldFile.{byteAt, bytes32, number32, bytes16, number16, sectionStart, tableStart, fileLength, mark, fileOf, tailShape, tailRight, fileWind, offsetsRight, fileField, readReply, readField, readWind, writeReply, writeFile}
+use Rattle.rules.specs.FieldFile.{byteAt, bytes32, number32, bytes16, number16, sectionStart, tableStart, fileLength, mark, tailShape, tailRight, fileWind, offsetsRight, fileField, readReply, writeReply, writeFile}
 use Rattle.field_file.specs.RoundTrips.{ReadIsWritten}
 use Rattle.field_file.proofs.NumberLaws.{Bytes, Has, has-four, code32, code16}
 use Rattle.field_file.proofs.SectionLaws.{numbers-written}

@@ -1,5 +1,5 @@
 -- What an accepted reading and an accepted writing have shown; what is so is accepted.
-use mathlib.Core.Path.{_≡_, refl, sym, ap, subst, _∙_}
+use mathlib.Core.Path.{_≡_, refl, ap, subst, _∙_}
 use mathlib.Core.Bool.{Bool, true, false, _&&_, cond}
 use mathlib.Core.List.{List, [], _∷_}
 use Prim.Native.Nat.{ℕ, _≤_}
@@ -10,7 +10,7 @@ use lib.ListN.{length}
 use Rattle.whole.specs.Table.{overwrite}
 use Rattle.whole.proofs.Cases.{both-yes}
 use Rattle.rules.specs.declared.Shape.{Shape}
-use Rattle.rules.specs.Answers.{Answer, accepted, refused, Check, check, answer, after}
+use Rattle.rules.specs.Answers.{accepted, refused, Check, check, answer}
 use Rattle.rules.specs.Field.{Kind, admitted, faces, fieldLength}
 use Rattle.rules.specs.Calls.{windSound}
 use Rattle.rules.specs.FieldFile.{fileLength, fileOf, tailShape, tailRight, offsetsRight, fileWind, fileField, fieldSound, readReply, readField, readWind, writeReply, writeFile}

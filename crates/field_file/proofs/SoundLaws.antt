@@ -1,7 +1,7 @@
 -- Soundness: of buffers that agree where the shape has numbers; and how small every number of a sound field is.
 use mathlib.Core.Path.{_≡_, refl, sym, ap, subst, _∙_}
-use mathlib.Core.Bool.{Bool, true, false, _&&_}
-use mathlib.Core.List.{List, []}
+use mathlib.Core.Bool.{Bool}
+use mathlib.Core.List.{List}
 use Prim.Native.Nat.{ℕ, zero, suc, _+_, _*_, _/_, _%_, _≤_, _<_}
 use native.Mathlib.Nat.{mul-zero, mod-lt, div-add-mod', div-lt-iff-lt-mul}
 use native.Mathlib.Decide.{decLt}
@@ -9,7 +9,7 @@ use native.Mathlib.Omega.{arith}
 use lib.Arith.{digits-lt}
 use lib.Dec.{T, leb, ltb, leb→le}
 use lib.IntN.{ℤ, natAbs}
-use lib.ListN.{length, getD, take, drop}
+use lib.ListN.{length, getD, take}
 use lib.Seq.{length-take-le, getD-take, ext-getD}
 use Rattle.whole.specs.Sum.{all}
 use Rattle.whole.specs.Table.{table}

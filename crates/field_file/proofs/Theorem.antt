@@ -1,7 +1,7 @@
 -- The two round trips of document 01's field file: every shape, every content, every surplus of the buffers.
-use mathlib.Core.Path.{_≡_, refl, sym, ap, subst, _∙_}
+use mathlib.Core.Path.{_≡_, sym, ap, _∙_}
 use mathlib.Core.List.{List}
-use Prim.Native.Nat.{ℕ, _+_, _*_, _≤_, _<_}
+use Prim.Native.Nat.{ℕ, _≤_, _<_}
 use native.Mathlib.Omega.{arith}
 use lib.Dec.{T, ltb, ltb→lt}
 use lib.IntN.{ℤ}
@@ -13,8 +13,8 @@ use Rattle.rules.specs.declared.Reading.{Reading}
 use Rattle.rules.specs.declared.Reading.the-variants as Reading
 use Rattle.rules.specs.declared.FileRead.{FileRead}
 use Rattle.rules.specs.declared.FileRead.the-variants as FileRead
-use Rattle.rules.specs.Answers.{Answer, accepted, reading, fileAnswer}
-use Rattle.rules.specs.Field.{quadratic, admitted, elements, faces, fieldLength}
+use Rattle.rules.specs.Answers.{accepted, reading, fileAnswer}
+use Rattle.rules.specs.Field.{quadratic, admitted, faces, fieldLength}
 use Rattle.rules.specs.FieldFile.{byteAt, fileLength, readReply, readField, readWind, writeReply, writeFile}
 use Rattle.rules.proofs.FieldLaws.{ranges}
 use Rattle.field.proofs.PlaceLaws.{sized, elements-le, field-is, field-le}
