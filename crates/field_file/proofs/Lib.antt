@@ -7,3 +7,4 @@ pub mod SoundLaws
 pub mod WrittenThenRead
 pub mod ReadThenWritten
 pub mod Theorem
+pub mod WritingLaws
