@@ -7,4 +7,5 @@ pub mod SoundLaws
 pub mod WrittenThenRead
 pub mod ReadThenWritten
 pub mod Theorem
+pub mod PartsLaws
 pub mod WritingLaws

@@ -1,13 +1,18 @@
--- Writing: the tracers of a field one after the other.
-use mathlib.Core.Path.{_≡_, refl, sym, ap, _∙_}
+-- Writing: the tracers of a field, searched and written one after the other.
+use mathlib.Core.Path.{_≡_, sym, ap, _∙_}
 use mathlib.Core.Bool.{true, false}
-use mathlib.Core.List.{List}
+use mathlib.Core.List.{List, _++_}
 use Prim.Native.Nat.{ℕ, _+_, _*_, _-_, _≤_, _<_}
-use native.Mathlib.Nat.{add-sub-cancel-left}
+use native.Mathlib.Nat.{add-sub-cancel-left, mul-comm, suc-mul}
+use native.Mathlib.Numerals.{add-one}
 use native.Mathlib.Omega.{arith}
-use lib.ListN.{length, take, drop}
+use lib.ListN.{length, getD, take, drop}
+use Rattle.whole.specs.Table.{blocks, overwrite}
+use Rattle.whole.proofs.OverwriteLaws.{part-at, length-overwrite}
+use Rattle.whole.proofs.TableLaws.{length-blocks}
 use Rattle.rules.specs.declared.Shape.{Shape}
 use Rattle.rules.specs.Field.{quadratic, tracerLength, fieldLength, part, sound, total}
+use Rattle.rules.specs.FieldFile.{bytes32}
 use Rattle.rules.proofs.PartLaws.{part-length}
 use Rattle.field.specs.Places.{Sized}
 use Rattle.field.specs.Search.{searched}
@@ -15,10 +20,12 @@ use Rattle.field.specs.declared.search.Total.{Total}
 use Rattle.field.specs.declared.search.Total.the-variants.{Sum, Unsound}
 use Rattle.field.proofs.CheckLaws.{searched-sum, searched-unsound}
 use Rattle.field.proofs.PlaceLaws.{tracer-room, field-is, field-le}
+use Rattle.field_file.proofs.NumberLaws.{code32}
+use Rattle.field_file.proofs.PartsLaws.{blocks-cong, blocks-split, overwrite-next, part-written}
 
 -- tracer s, which a loop finds from `start` on, `w` numbers
 module _ (g : Shape) (field : List ℕ) (room : fieldLength quadratic g ≤ length field) (s start w : ℕ) (there : s < g .tracers) (begins : start ≡ s * w) (width : w ≡ tracerLength quadratic g) where
-  pub ends : Sized g → (start + w ≤ length field) × (start + w ≤ 327680)
+  pub ends : Sized g → (start + w ≤ fieldLength quadratic g) × (start + w ≤ 327680)
   ends h =
       let e : s * w ≡ s * tracerLength quadratic g = ap (λ n. s * n) width in
       let r = tracer-room g s there in
@@ -40,3 +47,26 @@ module _ (g : Shape) (field : List ℕ) (room : fieldLength quadratic g ≤ leng
     pub found-unsound : r ≡ Unsound → sound quadratic g (part quadratic g s field) ≡ false
     unfolding searched
     found-unsound e = searched-unsound (sound quadratic g (part quadratic g s field)) (total quadratic g (part quadratic g s field)) (sym (found ∙ ap (searched g) lent-is) ∙ e)
+
+-- ---- the sections of the tracers, one after the other from place a of the file on
+module _ (field file₀ : List ℕ) (a : ℕ) where
+  abbrev number : ℕ → List ℕ
+  number i = bytes32 (getD field i 0)
+
+  length-numbers : (n : ℕ) (x : ℕ → ℕ) → length (blocks n (λ i. bytes32 (x i))) ≡ 4 * n
+  length-numbers n x = length-blocks 4 (λ i. bytes32 (x i)) (λ i. code32 .size (x i)) n ∙ mul-comm n 4
+
+  pub written-length : (n : ℕ) → a + 4 * n ≤ length file₀ → length (overwrite a (blocks n number) file₀) ≡ length file₀
+  written-length n room = length-overwrite a (blocks n number) file₀ (omega (arith, length-numbers n (λ i. getD field i 0)))
+
+  -- tracer s of w numbers is written behind those before it; `from`, `start` are where it begins in the field and in the file
+  pub next-tracer : (s w from start m k : ℕ) (file y : List ℕ) → from ≡ s * w → start ≡ a + 4 * (s * w) → m ≡ w → k ≡ 4 * w → file ≡ overwrite a (blocks (s * w) number) file₀ → length file ≡ length file₀ → start + 4 * w ≤ length file₀
+      → y ≡ overwrite 0 (blocks w (λ i. bytes32 (getD (take m (drop from field)) i 0))) (take k (drop start file))
+      → take start file ++ (y ++ drop k (drop start file)) ≡ overwrite a (blocks ((s + 1) * w) number) file₀
+  next-tracer s w from start m k file y ef es em ek e long room ey =
+      let q = blocks w (λ i. bytes32 (getD (take m (drop from field)) i 0)) in
+      let own : q ≡ blocks w (λ i. number (s * w + i)) = blocks-cong w (λ i. bytes32 (getD (take m (drop from field)) i 0)) (λ i. number (s * w + i)) (λ i l. ap bytes32 (part-at w from m field i 0 em l ∙ ap (λ n. getD field (n + i) 0) ef)) in
+      let next : (s + 1) * w ≡ s * w + w = rw (add-one s) (suc-mul s w) in
+      part-written start k q y file ey (omega (arith, length-numbers w (λ i. getD (take m (drop from field)) i 0))) (omega arith)
+      ∙ (λ i. overwrite start (own i) (e i)) ∙ overwrite-next a start (blocks (s * w) number) (blocks w (λ i. number (s * w + i))) file₀ (omega (arith, length-numbers (s * w) (λ i. getD field i 0))) (omega arith)
+      ∙ ap (λ l. overwrite a l file₀) (sym (ap (λ n. blocks n number) next ∙ blocks-split (s * w) w number))

@@ -1,13 +1,12 @@
-use mathlib.Core.Path.{_≡_, refl, sym, ap, _∙_}
+use mathlib.Core.Path.{_≡_, refl, sym}
 use mathlib.Core.Bool.{true}
 use borrow.Author.Needs.{needs}
 use native.Mathlib.Nat.{zero-mul, suc-mul}
 use native.Mathlib.Numerals.{add-one}
 use native.Mathlib.Omega.{arith}
 use Prim.Native.Nat.{_≤_, _+_, _-_, _*_}
-use lib.ListN.{length}
 use Rattle.whole.specs.Sum.{all}
-use Rattle.rules.specs.Field.{quadratic, tracerLength, part, sound}
+use Rattle.rules.specs.Field.{quadratic, fieldLength, part, sound}
 use Rattle.rules.specs.FieldFile.{fieldSound}
 use Rattle.field.proofs.SearchLaws.{all-more, all-fails}
 use Rattle.field_file.proofs.WritingLaws.{ends, lent-length, found-sound, found-unsound}
@@ -29,7 +28,7 @@ loop-holds c = (omega arith, sym (zero-mul _), refl)
 
 -- the tracer of a turn ends within the field
 within : (c : tie.In-loop Inv-loop μ-loop)
-    → (c .before .loop .start + c .before .before .tracer-length .result ≤ length (c .before .before .before .before .args .field .now)) × (c .before .loop .start + c .before .before .tracer-length .result ≤ 327680)
+    → (c .before .loop .start + c .before .before .tracer-length .result ≤ fieldLength quadratic (c .before .before .before .before .args .shape)) × (c .before .loop .start + c .before .before .tracer-length .result ≤ 327680)
 within c =
     let b = c .before .before .before .before in
     let l = c .before .loop in
@@ -48,7 +47,7 @@ part-tracer-total-start : tie.Need-part-tracer-total-start Inv-loop μ-loop
 part-tracer-total-start c = search needs
 
 part-tracer-total-end : tie.Need-part-tracer-total-end Inv-loop μ-loop
-part-tracer-total-end c = omega (arith, within c)
+part-tracer-total-end c = omega (arith, within c, c .before .before .before .before .pre .1)
 
 tracer-total-requires : tie.Need-tracer-total-requires Inv-loop μ-loop
 tracer-total-requires c κs =
