@@ -1,7 +1,7 @@
 -- The two round trips, bottom to top.
 pub mod NumberLaws
 pub mod SectionLaws
-pub mod LayoutLaws
+pub mod FileLaws
 pub mod ReplyLaws
 pub mod SoundLaws
 pub mod WrittenThenRead

@@ -19,7 +19,7 @@ use Rattle.rules.specs.FieldFile.{byteAt, fileLength, readReply, readField, rea
 use Rattle.rules.proofs.FieldLaws.{ranges}
 use Rattle.field.proofs.PlaceLaws.{sized, elements-le, field-is, field-le}
 use Rattle.field_file.specs.RoundTrips.{WrittenIsRead, ReadIsWritten, Wrote, Read, FoundAgain, SameBytes}
-use Rattle.field_file.proofs.LayoutLaws.{table-start, file-length}
+use Rattle.field_file.proofs.FileLaws.{table-start, file-length}
 use Rattle.field_file.proofs.WrittenThenRead.{Storable, written-is-read-of}
 use Rattle.field_file.proofs.ReadThenWritten.{read-is-written-of}
 

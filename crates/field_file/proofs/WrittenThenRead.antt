@@ -21,7 +21,7 @@ use Rattle.rules.specs.FieldFile.{byteAt, bytes32, number32, bytes16, number16,
 use Rattle.field_file.specs.RoundTrips.{WrittenIsRead}
 use Rattle.field_file.proofs.NumberLaws.{code32, code16}
 use Rattle.field_file.proofs.SectionLaws.{numbers-read}
-use Rattle.field_file.proofs.LayoutLaws.{tailStart, field-start, file-length, start-le, Holds, length-file, file-holds}
+use Rattle.field_file.proofs.FileLaws.{tailStart, field-start, file-length, start-le, Holds, length-file, file-holds}
 use Rattle.field_file.proofs.ReplyLaws.{and-yes, Readable, read-accepted, field-read, wind-read, Writable, write-shown, file-written}
 use Rattle.field_file.proofs.SoundLaws.{all-of, front-table, winds-same, wind-fits, fields-same, number-fits}
 
