@@ -1,0 +1,3 @@
+-- Laws that the proofs of the file's calls cite.
+pub mod LayoutLaws
+pub mod TailLaws
