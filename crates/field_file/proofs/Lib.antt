@@ -1,3 +1,6 @@
+-- Laws that the proofs of the file's calls cite.
+pub mod LayoutLaws
+pub mod TailLaws
 -- The two round trips, bottom to top.
 pub mod NumberLaws
 pub mod SectionLaws
@@ -7,5 +10,6 @@ pub mod SoundLaws
 pub mod WrittenThenRead
 pub mod ReadThenWritten
 pub mod Theorem
+-- Laws of writing.
 pub mod PartsLaws
 pub mod WritingLaws
