@@ -5,8 +5,10 @@ ghost use Prim.Native.Nat.{_*_, _+_, _≤_};
 ghost use lib.ListN.{length, getD};
 ghost use Rattle.whole.specs.Table.{blocks, overwrite};
 ghost use Rattle.rules.specs.Field.{quadratic, faces, fieldLength};
-ghost use Rattle.rules.specs.FieldFile.{bytes32, fieldSound};
+ghost use Rattle.rules.specs.FieldFile.{bytes32, sectionStart, tail, fieldSound};
 ghost use Rattle.field.specs.Places.{Sized};
+use super::layout;
+use super::tail::MARK;
 use field::search::Total;
 use rules::Shape;
 
@@ -48,4 +50,33 @@ fn write_tracers(file: &mut [u8], field: &[u32], shape: Shape)
         start = end;
         from = to;
     }
+}
+
+// Writes the table of offsets.
+fn write_table(table: &mut [u8], shape: Shape)
+    requires { ⌜ Sized shape ⌝ }
+    requires { ⌜ 4 * (shape .tracers + 1) ≤ length (now table) ⌝ }
+    ensures { λ _. ⌜ now (table .exit) ≡ overwrite 0 (blocks (shape .tracers + 1) (λ i. bytes32 (sectionStart quadratic shape i))) (now (table .entry)) ⌝ }
+{
+    let n = shape.tracers + 1;
+    for i in 0..n {
+        sections::put32(table, 4 * i, layout::section_start(shape, i) as u32);
+    }
+}
+
+// Writes the tail: the shape, a byte 0, the table's offset and the mark.
+fn write_tail(out: &mut [u8], shape: Shape)
+    requires { ⌜ Sized shape ⌝ }
+    requires { ⌜ length (now out) ≡ 12 ⌝ }
+    ensures { λ _. ⌜ now (out .exit) ≡ tail quadratic shape ⌝ }
+{
+    out[0] = shape.nx as u8;
+    out[1] = shape.ny as u8;
+    out[2] = shape.tracers as u8;
+    out[3] = 0;
+    sections::put32(out, 4, layout::table_start(shape) as u32);
+    out[8] = MARK[0];
+    out[9] = MARK[1];
+    out[10] = MARK[2];
+    out[11] = MARK[3];
 }
