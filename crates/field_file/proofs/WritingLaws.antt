@@ -6,7 +6,7 @@ use Prim.Native.Nat.{ℕ, _+_, _*_, _-_, _≤_, _<_}
 use native.Mathlib.Nat.{add-sub-cancel-left, mul-comm, suc-mul}
 use native.Mathlib.Numerals.{add-one}
 use native.Mathlib.Omega.{arith}
-use lib.ListN.{length, getD, set, take, drop, length-append, drop-of-length-le}
+use lib.ListN.{length, getD, set, take, drop, length-append}
 use Rattle.whole.specs.Table.{blocks, overwrite}
 use Rattle.whole.proofs.OverwriteLaws.{part-at, length-overwrite}
 use Rattle.whole.proofs.TableLaws.{length-blocks, blocks-more}

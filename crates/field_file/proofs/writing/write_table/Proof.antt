@@ -1,7 +1,7 @@
-use mathlib.Core.Path.{_≡_, refl, sym, ap, _∙_}
+use mathlib.Core.Path.{_≡_, _∙_}
 use borrow.Author.Needs.{needs}
 use native.Mathlib.Omega.{arith}
-use Prim.Native.Nat.{_≤_, _+_, _-_, _*_}
+use Prim.Native.Nat.{_≤_, _+_, _-_}
 use lib.ListN.{length}
 use Rattle.whole.specs.Table.{blocks, overwrite}
 use Rattle.rules.specs.Field.{quadratic}
