@@ -13,3 +13,4 @@ pub mod Theorem
 -- Laws of writing.
 pub mod PartsLaws
 pub mod WritingLaws
+pub mod WriteChecks

@@ -1,16 +1,35 @@
 // Writing a field file.
 // The call has no `requires`: what document 01 doesn't admit is refused by its number, and a refused call writes nothing.
 ghost use mathlib.Core.Path.{_≡_};
+ghost use mathlib.Core.Bool.{_&&_};
 ghost use Prim.Native.Nat.{_*_, _+_, _≤_};
+ghost use lib.Dec.{leb};
 ghost use lib.ListN.{length, getD};
 ghost use Rattle.whole.specs.Table.{blocks, overwrite};
+ghost use Rattle.rules.specs.Answers.{reading};
 ghost use Rattle.rules.specs.Field.{quadratic, faces, fieldLength};
-ghost use Rattle.rules.specs.FieldFile.{bytes32, sectionStart, tail, fieldSound};
+ghost use Rattle.rules.specs.FieldFile.{bytes32, sectionStart, fileLength, tail, fileOf, fieldSound, writeReply, writeFile};
 ghost use Rattle.field.specs.Places.{Sized};
 use super::layout;
 use super::tail::MARK;
 use field::search::Total;
+use rules::Reading;
+use rules::Refusal;
 use rules::Shape;
+
+// Whether buffers of these lengths are long enough.
+fn lent_enough(field: usize, wind: usize, file: usize, shape: Shape) -> bool
+    requires { ⌜ Sized shape ⌝ }
+    ensures { λ r. ⌜ r ≡ (leb (fieldLength quadratic shape) field && (leb (faces shape) wind && leb (fileLength quadratic shape) file)) ⌝ }
+{
+    if field < field::places::field_length(shape) {
+        return false;
+    }
+    if wind < field::places::faces(shape) {
+        return false;
+    }
+    layout::file_length(shape) <= file
+}
 
 // Whether every tracer is sound.
 fn tracers_sound(field: &[u32], shape: Shape) -> bool
@@ -30,6 +49,25 @@ fn tracers_sound(field: &[u32], shape: Shape) -> bool
         start = end;
     }
     true
+}
+
+// The checks of a writing: 2, 4, 5 and 6.
+fn check(file: &[u8], field: &[u32], wind: &[i16], shape: Shape) -> Reading
+    ensures { λ r. ⌜ reading r ≡ writeReply quadratic shape (now (field .entry)) (now (wind .entry)) (now (file .entry)) ⌝ }
+{
+    if !field::places::admitted(shape) {
+        return Reading::Refused(Refusal::BadShape);
+    }
+    if !lent_enough(field.len(), wind.len(), file.len(), shape) {
+        return Reading::Refused(Refusal::ShortBuffer);
+    }
+    if !field::search::winds_sound(wind, shape) {
+        return Reading::Refused(Refusal::WindOutOfRange);
+    }
+    if !tracers_sound(field, shape) {
+        return Reading::Refused(Refusal::UnsoundTracer);
+    }
+    Reading::Number(layout::file_length(shape) as u64)
 }
 
 // Writes the section of each tracer.
@@ -79,4 +117,38 @@ fn write_tail(out: &mut [u8], shape: Shape)
     out[9] = MARK[1];
     out[10] = MARK[2];
     out[11] = MARK[3];
+}
+
+// Writes the file of a field and a wind that have passed the checks: the wind's section, the tracers' sections, the table, the tail.
+fn write_parts(file: &mut [u8], field: &[u32], wind: &[i16], shape: Shape)
+    requires { ⌜ Sized shape ⌝ }
+    requires { ⌜ fileLength quadratic shape ≤ length (now file) ⌝ }
+    requires { ⌜ fieldLength quadratic shape ≤ length (now field) ⌝ }
+    requires { ⌜ faces shape ≤ length (now wind) ⌝ }
+    ensures { λ _. ⌜ now (file .exit) ≡ overwrite 0 (fileOf quadratic shape (now (field .entry)) (now (wind .entry))) (now (file .entry)) ⌝ }
+{
+    let winds = layout::section_start(shape, 0);
+    let tracers = layout::section_start(shape, 1);
+    let table = layout::table_start(shape);
+    let tail = table + 4 * (shape.tracers + 1);
+    let end = layout::file_length(shape);
+    sections::write_winds(&mut file[winds..tracers], wind, field::places::faces(shape));
+    write_tracers(file, field, shape);
+    write_table(&mut file[table..tail], shape);
+    write_tail(&mut file[tail..end], shape);
+}
+
+// Writes a field and a wind of this shape to a file, and answers its length in bytes.
+pub fn write(file: &mut [u8], field: &[u32], wind: &[i16], shape: Shape) -> Reading
+    ensures { λ r. ⌜ reading r ≡ writeReply quadratic shape (now (field .entry)) (now (wind .entry)) (now (file .entry)) ⌝ }
+    ensures { λ _. ⌜ now (file .exit) ≡ writeFile quadratic shape (now (field .entry)) (now (wind .entry)) (now (file .entry)) ⌝ }
+{
+    let checked = check(file, field, wind, shape);
+    match checked {
+        Reading::Refused(r) => Reading::Refused(r),
+        Reading::Number(n) => {
+            write_parts(file, field, wind, shape);
+            Reading::Number(n)
+        }
+    }
 }
