@@ -55,13 +55,13 @@ module _ (κ : Kind) (g : Shape) where
 
 -- ---- the file of a field and a wind
 module _ (κ : Kind) (g : Shape) (field : List ℕ) (wind : List ℤ) where
-  abbrev winds : List ℕ
+  abbrev pub winds : List ℕ
   winds = blocks (faces g) (λ f. bytes16 (windAt wind f))
 
-  abbrev numbers : List ℕ
+  abbrev pub numbers : List ℕ
   numbers = blocks (fieldLength κ g) (λ i. bytes32 (getD field i 0))
 
-  abbrev offsets : List ℕ
+  abbrev pub offsets : List ℕ
   offsets = blocks (g .tracers + 1) (λ i. bytes32 (sectionStart κ g i))
 
   abbrev shape : List ℕ
@@ -77,19 +77,19 @@ module _ (κ : Kind) (g : Shape) (field : List ℕ) (wind : List ℤ) where
     pub has-table : Has (tailStart κ g + 4) (bytes32 (tableStart κ g)) file
     pub has-mark : Has (tailStart κ g + 8) mark file
 
-  length-winds : length winds ≡ 2 * faces g
+  pub length-winds : length winds ≡ 2 * faces g
   length-winds = length-blocks 2 (λ f. bytes16 (windAt wind f)) (λ f. code16 .size (windAt wind f)) (faces g) ∙ mul-comm (faces g) 2
 
-  length-numbers : length numbers ≡ 4 * fieldLength κ g
+  pub length-numbers : length numbers ≡ 4 * fieldLength κ g
   length-numbers = length-blocks 4 (λ i. bytes32 (getD field i 0)) (λ i. code32 .size (getD field i 0)) (fieldLength κ g) ∙ mul-comm (fieldLength κ g) 4
 
-  length-offsets : length offsets ≡ 4 * (g .tracers + 1)
+  pub length-offsets : length offsets ≡ 4 * (g .tracers + 1)
   length-offsets = length-blocks 4 (λ i. bytes32 (sectionStart κ g i)) (λ i. code32 .size (sectionStart κ g i)) (g .tracers + 1) ∙ mul-comm (g .tracers + 1) 4
 
   length-table : length (bytes32 (tableStart κ g)) ≡ 4
   length-table = code32 .size (tableStart κ g)
 
-  length-tail : length (tail κ g) ≡ 12
+  pub length-tail : length (tail κ g) ≡ 12
   unfolding tail
   length-tail = length-append shape (bytes32 (tableStart κ g) ++ mark) ∙ omega (arith, length-append (bytes32 (tableStart κ g)) mark, length-table)
 

@@ -13,4 +13,5 @@ pub mod Theorem
 -- Laws of writing.
 pub mod PartsLaws
 pub mod WritingLaws
+pub mod FileWritten
 pub mod WriteChecks
