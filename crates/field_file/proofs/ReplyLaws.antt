@@ -1,5 +1,5 @@
 -- What an accepted reading and an accepted writing have shown; what is so is accepted.
-use mathlib.Core.Path.{_≡_, refl, ap, subst, _∙_}
+use mathlib.Core.Path.{_≡_, refl, sym, ap, subst, _∙_}
 use mathlib.Core.Bool.{Bool, true, false, _&&_, cond}
 use mathlib.Core.List.{List, [], _∷_}
 use Prim.Native.Nat.{ℕ, _≤_}
@@ -15,7 +15,7 @@ use Rattle.rules.specs.Field.{Kind, admitted, faces, fieldLength}
 use Rattle.rules.specs.Calls.{windSound}
 use Rattle.rules.specs.FieldFile.{fileLength, fileOf, tailShape, tailRight, offsetsRight, fileWind, fileField, fieldSound, readReply, readField, readWind, writeReply, writeFile}
 use Rattle.rules.proofs.AnswerLaws.{Passed, answer-ind}
-use Rattle.field.proofs.CheckLaws.{after-accepted}
+use Rattle.field.proofs.CheckLaws.{after-accepted, after-refused}
 
 pub and-yes : (a b : Bool) → T a → T b → T (a && b)
 and-yes true b ta tb = tb
@@ -114,3 +114,8 @@ module _ (κ : Kind) (g : Shape) where
       pub file-written : writeFile κ g field wind out ≡ overwrite 0 (fileOf κ g field wind) out
       unfolding writeFile
       file-written = after-accepted (writeReply κ g field wind out) (fileLength κ g) _ out write-accepted
+
+    -- a refused writing leaves the file as it was
+    pub file-kept : (n : ℕ) → writeReply κ g field wind out ≡ refused n → out ≡ writeFile κ g field wind out
+    unfolding writeFile
+    file-kept n e = sym (after-refused (writeReply κ g field wind out) n _ out e)

@@ -3,9 +3,8 @@ use mathlib.Core.Bool.{true}
 use borrow.Author.Needs.{needs}
 use borrow.Author.Tests.{not-true, not-false}
 use Rattle.rules.specs.Answers.{accepted}
-use Rattle.rules.specs.Field.{quadratic, admitted}
+use Rattle.rules.specs.Field.{admitted}
 use Rattle.rules.specs.Calls.{windSound}
-use Rattle.rules.specs.FieldFile.{fieldSound}
 use Rattle.rules.proofs.FieldLaws.{ranges}
 use Rattle.field.specs.Places.{Sized}
 use Rattle.field.proofs.PlaceLaws.{sized}

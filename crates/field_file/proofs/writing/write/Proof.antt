@@ -1,52 +1,52 @@
+use mathlib.Core.Path.{sym, ap, _∙_}
 use borrow.Author.Needs.{needs}
+use Rattle.rules.specs.Answers.{reading}
+use Rattle.rules.specs.Field.{quadratic}
+use Rattle.rules.proofs.FieldLaws.{ranges}
+use Rattle.field.proofs.PlaceLaws.{sized}
+use Rattle.field_file.proofs.ReplyLaws.{Writable, write-shown, file-written, file-kept}
 use Rattle.field_file.proofs.writing.write.Statement.{statement}
 use Rattle.field_file.proofs.writing.write.Tie as tie
-use Rattle.field_file.proofs.writing.write.Reads as reads
-use Rattle.field_file.proofs.writing.write.Lts as lts
-use Rattle.field_file.proofs.writing.check.Reads as check-reads
-use Rattle.field_file.proofs.writing.write_parts.Reads as write-parts-reads
 
--- src/writing.rt:146:9
 check-requires : tie.Need-check-requires
 check-requires c κs = search needs
 
--- src/writing.rt:148:26
 enum-known-checked : tie.Need-enum-known-checked
 enum-known-checked c = search needs
 
--- src/writing.rt:149:25
 enum-known-checked-2 : tie.Need-enum-known-checked-2
 enum-known-checked-2 c = search needs
 
--- src/writing.rt:150:13
-write-parts-requires : tie.Need-write-parts-requires
-write-parts-requires c κs = search needs
+-- what an accepted check has shown
+shown : (c : tie.After-known-told2) → Writable quadratic (c .before .before .before .before .before .before .before .args .shape) (c .before .before .before .before .before .before .before .args .field .now) (c .before .before .before .before .before .before .before .args .wind .now) (c .before .before .before .before .before .before .before .args .file .now)
+shown c =
+    let a = c .before .before .before .before .before .before .before .args in
+    write-shown quadratic (a .shape) (a .field .now) (a .wind .now) (a .file .now) _ (sym (c .before .before .before .check .ensures) ∙ ap reading (c .before .checked2 .given .1)) .0
 
--- src/writing.rt:142:1
+write-parts-requires : tie.Need-write-parts-requires
+write-parts-requires c κs =
+    let w = shown (c .before) in
+    (sized (ranges (c .before .before .before .before .before .before .before .before .args .shape) (w .ranges)), (w .out-room, (w .field-room, w .wind-room)))
+
 same-length : tie.Need-same-length
 same-length c = search needs
 
--- src/writing.rt:142:1
 returns : tie.Need-returns
-returns c = search needs
+returns c =
+    let a = c .before .before .before .before .before .before .before .args in
+    let e = sym (c .before .before .before .check .ensures) ∙ ap reading (c .before .checked .given .1) in
+    (sym e, file-kept quadratic (a .shape) (a .field .now) (a .wind .now) (a .file .now) _ e)
 
--- src/writing.rt:142:1
 same-length-2 : tie.Need-same-length-2
 same-length-2 c = search needs
 
--- src/writing.rt:142:1
 returns-2 : tie.Need-returns-2
-returns-2 c = search needs
+returns-2 c =
+    let k = c .before .before .before .before in
+    let a = c .before .before .before .before .before .before .before .before .before .before .before .args in (
+      sym (sym (k .before .before .before .check .ensures) ∙ ap reading (k .before .checked2 .given .1)),
+      c .before .before .write-parts .ensures ∙ sym (file-written quadratic (a .shape) (a .field .now) (a .wind .now) (a .file .now) (shown k)),
+    )
 
 pub write-spec : {M : Type 1} → statement M
-write-spec =
-    tie.close
-    (tie.spec
-    check-requires
-    enum-known-checked
-    enum-known-checked-2
-    write-parts-requires
-    same-length
-    returns
-    same-length-2
-    returns-2)
+write-spec = tie.close (tie.spec check-requires enum-known-checked enum-known-checked-2 write-parts-requires same-length returns same-length-2 returns-2)

@@ -1,5 +1,5 @@
-use mathlib.Core.Path.{_≡_, refl, sym, ap, _∙_}
-use mathlib.Core.List.{List, _++_}
+use mathlib.Core.Path.{_≡_, refl, ap, _∙_}
+use mathlib.Core.List.{_++_}
 use borrow.Author.Needs.{needs}
 use native.Mathlib.Nat.{add-sub-cancel-left}
 use native.Mathlib.Omega.{arith}
@@ -10,7 +10,7 @@ use Rattle.whole.proofs.OverwriteLaws.{part-size}
 use Rattle.rules.specs.Field.{quadratic, faces, fieldLength}
 use Rattle.rules.specs.Calls.{windAt}
 use Rattle.rules.specs.FieldFile.{bytes16}
-use Rattle.field_file.proofs.FileLaws.{tailStart, field-start, table-start, file-length, numbers}
+use Rattle.field_file.proofs.FileLaws.{field-start, table-start, file-length, numbers}
 use Rattle.field_file.proofs.LayoutLaws.{wind-start, length-le}
 use Rattle.field_file.proofs.FileWritten.{with-winds, with-tracers, with-table, winds-long, tracers-long, table-long, winds-made, table-made, tail-made}
 use Rattle.field_file.proofs.writing.write_parts.Statement.{statement}
