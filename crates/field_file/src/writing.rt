@@ -81,7 +81,7 @@ fn write_tracers(file: &mut [u8], field: &[u32], shape: Shape)
     let numbers = field::places::tracer_length(shape);
     let mut start = 2 * field::places::faces(shape);
     let mut from = 0;
-    for s in 0..tracers {
+    for k in 0..tracers {
         let end = start + 4 * numbers;
         let to = from + numbers;
         sections::write_numbers(&mut file[start..end], &field[from..to], numbers);

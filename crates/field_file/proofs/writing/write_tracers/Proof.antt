@@ -15,10 +15,10 @@ use Rattle.field_file.proofs.writing.write_tracers.Statement.{statement
 use Rattle.field_file.proofs.writing.write_tracers.Tie as tie
 
 abbrev Inv-loop : tie.InvT-loop
-Inv-loop file₀ field tracers numbers start₀ from₀ s₀ file start from s = (s ≤ tracers) × (from ≡ s * numbers) × (start ≡ start₀ + 4 * (s * numbers)) × (length file ≡ length file₀) × (file ≡ overwrite start₀ (blocks (s * numbers) (λ i. bytes32 (getD field i 0))) file₀)
+Inv-loop file₀ field tracers numbers start₀ from₀ k₀ file start from k = (k ≤ tracers) × (from ≡ k * numbers) × (start ≡ start₀ + 4 * (k * numbers)) × (length file ≡ length file₀) × (file ≡ overwrite start₀ (blocks (k * numbers) (λ i. bytes32 (getD field i 0))) file₀)
 
 abbrev μ-loop : tie.MeasureT-loop
-μ-loop file₀ field tracers numbers start₀ from₀ s₀ file start from s = tracers - s
+μ-loop file₀ field tracers numbers start₀ from₀ k₀ file start from k = tracers - k
 
 tracer-length-requires : tie.Need-tracer-length-requires Inv-loop μ-loop
 tracer-length-requires c κs = c .before .before .pre .0
@@ -40,7 +40,7 @@ within c =
     let b = c .before .before .before .before .before .before in
     let l = c .before .loop in
     let w = c .before .before .before .tracer-length in
-    ends (b .args .shape) (b .args .field .now) (b .pre .1 .1) (l .s) (l .from) (w .result) (c .loop-test .taken) (l .inv .1) (w .ensures) (b .pre .0)
+    ends (b .args .shape) (b .args .field .now) (b .pre .1 .1) (l .k) (l .from) (w .result) (c .loop-test .taken) (l .inv .1) (w .ensures) (b .pre .0)
 
 section-ends : (c : tie.In-loop Inv-loop μ-loop)
     → (c .before .loop .start + 4 * c .before .before .before .tracer-length .result ≤ length (c .before .before .before .before .before .before .args .file .now)) × (c .before .loop .start + 4 * c .before .before .before .tracer-length .result ≤ 2000000)
@@ -91,8 +91,8 @@ write-numbers-requires c κs =
       omega (arith, part-size w (l .from) (l .from + w - l .from) (b .args .field .now) (add-sub-cancel-left (l .from) w) (omega (arith, within n, b .pre .1 .1))),
     )
 
-add-s : tie.Need-add-s Inv-loop μ-loop
-add-s c = search needs
+add-k : tie.Need-add-k Inv-loop μ-loop
+add-k c = search needs
 
 loop-less : tie.Need-loop-less Inv-loop μ-loop
 loop-less c = search needs
@@ -106,10 +106,10 @@ loop-again c =
     let w = n .before .before .before .tracer-length .result in
     let f = n .before .before .faces .result in
     let file₀ = b .args .file .now in
-    let next : (l .s + 1) * w ≡ l .s * w + w = rw (add-one (l .s)) (suc-mul (l .s) w) in
-    let moved = next-tracer (b .args .field .now) file₀ (2 * f) (l .s) w (l .from) (l .start) (l .from + w - l .from) (l .start + 4 * w - l .start) (l .file) (t .write-numbers .last .0)
+    let next : (l .k + 1) * w ≡ l .k * w + w = rw (add-one (l .k)) (suc-mul (l .k) w) in
+    let moved = next-tracer (b .args .field .now) file₀ (2 * f) (l .k) w (l .from) (l .start) (l .from + w - l .from) (l .start + 4 * w - l .start) (l .file) (t .write-numbers .last .0)
     (l .inv .1) (l .inv .2) (add-sub-cancel-left (l .from) w) (add-sub-cancel-left (l .start) (4 * w)) (l .inv .4) (l .inv .3) (section-ends n .0) (t .write-numbers .ensures) in
-    (omega arith, omega (arith, l .inv .1, next), omega (arith, l .inv .2, next), ap length moved ∙ written-length (b .args .field .now) file₀ (2 * f) ((l .s + 1) * w) (omega (arith, section-ends n, l .inv .2, next)), moved)
+    (omega arith, omega (arith, l .inv .1, next), omega (arith, l .inv .2, next), ap length moved ∙ written-length (b .args .field .now) file₀ (2 * f) ((l .k + 1) * w) (omega (arith, section-ends n, l .inv .2, next)), moved)
 
 same-length : tie.Need-same-length Inv-loop μ-loop
 same-length c = c .before .loop .inv .3
@@ -120,8 +120,8 @@ returns c =
     let g = b .args .shape in
     let l = c .before .loop in
     let w = c .before .before .before .tracer-length in
-    let n : l .s * w .result ≡ fieldLength quadratic g = (λ i. (let e : l .s ≡ g .tracers = omega arith in e) i * w .ensures i) ∙ sym (field-is g) in
+    let n : l .k * w .result ≡ fieldLength quadratic g = (λ i. (let e : l .k ≡ g .tracers = omega arith in e) i * w .ensures i) ∙ sym (field-is g) in
     rw (← n, ← (c .before .before .faces .ensures)) (l .inv .4)
 
 pub write-tracers-spec : {M : Type 1} → statement M
-write-tracers-spec = tie.close (tie.spec Inv-loop μ-loop tracer-length-requires faces-requires mul-start loop-holds mul-end add-end add-to sub-write-numbers part-write-numbers-start part-write-numbers-end mul-write-numbers sub-write-numbers-2 part-write-numbers-start-2 part-write-numbers-end-2 write-numbers-requires add-s loop-less loop-again same-length returns)
+write-tracers-spec = tie.close (tie.spec Inv-loop μ-loop tracer-length-requires faces-requires mul-start loop-holds mul-end add-end add-to sub-write-numbers part-write-numbers-start part-write-numbers-end mul-write-numbers sub-write-numbers-2 part-write-numbers-start-2 part-write-numbers-end-2 write-numbers-requires add-k loop-less loop-again same-length returns)
