@@ -1,7 +1,7 @@
 -- Where the sections of a file stand: the sizes of an admitted shape, and that a section ends where the next one starts.
 use mathlib.Core.Path.{_≡_, refl}
 use Prim.Native.Nat.{ℕ, zero, suc, _+_, _-_, _*_, _≤_, _<_}
-use native.Mathlib.Nat.{mul-le-mul}
+use native.Mathlib.Nat.{mul-le-mul, mul-le-mul-right}
 use native.Mathlib.Omega.{arith}
 use borrow.Author.Tests.{ne-eqb}
 use Rattle.rules.specs.declared.Shape.{Shape}
@@ -48,3 +48,7 @@ module _ (g : Shape) where
 
   pub length-le : Sized g → fileLength quadratic g ≤ 1327152
   length-le h = omega (arith, length-is, table-is, section-le (g .tracers + 1) h (omega arith), h .tracers)
+
+  -- a section ends within the file
+  pub start-in : (i : ℕ) → i ≤ g .tracers → sectionStart quadratic g (i + 1) ≤ fileLength quadratic g
+  start-in i h = omega (arith, length-is, table-is, tracer-start i, tracer-start (g .tracers), mul-le-mul-right (4 * tracerLength quadratic g) h)

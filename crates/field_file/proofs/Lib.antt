@@ -1,6 +1,8 @@
 -- Laws that the proofs of the file's calls cite.
 pub mod LayoutLaws
 pub mod TailLaws
+pub mod ReadLaws
+pub mod CheckLaws
 -- The two round trips, bottom to top.
 pub mod NumberLaws
 pub mod SectionLaws

@@ -29,3 +29,8 @@ unfoldable pub shapeChecks : Shape → List ℕ → ℕ → ℕ → List Check
 shapeChecks g file field wind =
     check 3 (offsetsRight quadratic g file) ∷ check 4 (leb (fieldLength quadratic g) field && leb (faces g) wind)
     ∷ check 5 (windSound g (fileWind g file)) ∷ check 6 (fieldSound quadratic g (fileField quadratic g file)) ∷ []
+
+-- whether the file passes them
+unfoldable pub shapeReply : Shape → List ℕ → ℕ → ℕ → Answer (Unit {0})
+unfolding shapeChecks answer
+shapeReply g file field wind = answer (shapeChecks g file field wind) tt

@@ -1,5 +1,4 @@
-// Writing a field file.
-// The call has no `requires`: what document 01 doesn't admit is refused by its number, and a refused call writes nothing.
+// Writing a field file: the checks, and the parts of the file. Leaves of `write`.
 ghost use mathlib.Core.Path.{_≡_};
 ghost use mathlib.Core.Bool.{_&&_};
 ghost use Prim.Native.Nat.{_*_, _+_, _≤_};
@@ -8,7 +7,7 @@ ghost use lib.ListN.{length, getD};
 ghost use Rattle.whole.specs.Table.{blocks, overwrite};
 ghost use Rattle.rules.specs.Answers.{reading};
 ghost use Rattle.rules.specs.Field.{quadratic, faces, fieldLength};
-ghost use Rattle.rules.specs.FieldFile.{bytes32, sectionStart, fileLength, tail, fileOf, fieldSound, writeReply, writeFile};
+ghost use Rattle.rules.specs.FieldFile.{bytes32, sectionStart, fileLength, tail, fileOf, fieldSound, writeReply};
 ghost use Rattle.field.specs.Places.{Sized};
 use super::layout;
 use super::tail::MARK;
@@ -52,7 +51,7 @@ fn tracers_sound(field: &[u32], shape: Shape) -> bool
 }
 
 // The checks of a writing: 2, 4, 5 and 6.
-fn check(file: &[u8], field: &[u32], wind: &[i16], shape: Shape) -> Reading
+pub(crate) fn check(file: &[u8], field: &[u32], wind: &[i16], shape: Shape) -> Reading
     ensures { λ r. ⌜ reading r ≡ writeReply quadratic shape (now (field .entry)) (now (wind .entry)) (now (file .entry)) ⌝ }
 {
     if !field::places::admitted(shape) {
@@ -120,7 +119,7 @@ fn write_tail(out: &mut [u8], shape: Shape)
 }
 
 // Writes the file of a field and a wind that have passed the checks: the wind's section, the tracers' sections, the table, the tail.
-fn write_parts(file: &mut [u8], field: &[u32], wind: &[i16], shape: Shape)
+pub(crate) fn write_parts(file: &mut [u8], field: &[u32], wind: &[i16], shape: Shape)
     requires { ⌜ Sized shape ⌝ }
     requires { ⌜ fileLength quadratic shape ≤ length (now file) ⌝ }
     requires { ⌜ fieldLength quadratic shape ≤ length (now field) ⌝ }
@@ -136,19 +135,4 @@ fn write_parts(file: &mut [u8], field: &[u32], wind: &[i16], shape: Shape)
     write_tracers(file, field, shape);
     write_table(&mut file[table..tail], shape);
     write_tail(&mut file[tail..end], shape);
-}
-
-// Writes a field and a wind of this shape to a file, and answers its length in bytes.
-pub fn write(file: &mut [u8], field: &[u32], wind: &[i16], shape: Shape) -> Reading
-    ensures { λ r. ⌜ reading r ≡ writeReply quadratic shape (now (field .entry)) (now (wind .entry)) (now (file .entry)) ⌝ }
-    ensures { λ _. ⌜ now (file .exit) ≡ writeFile quadratic shape (now (field .entry)) (now (wind .entry)) (now (file .entry)) ⌝ }
-{
-    let checked = check(file, field, wind, shape);
-    match checked {
-        Reading::Refused(r) => Reading::Refused(r),
-        Reading::Number(n) => {
-            write_parts(file, field, wind, shape);
-            Reading::Number(n)
-        }
-    }
 }

@@ -5,8 +5,8 @@ use Rattle.rules.specs.Field.{quadratic}
 use Rattle.rules.proofs.FieldLaws.{ranges}
 use Rattle.field.proofs.PlaceLaws.{sized}
 use Rattle.field_file.proofs.ReplyLaws.{Writable, write-shown, file-written, file-kept}
-use Rattle.field_file.proofs.writing.write.Statement.{statement}
-use Rattle.field_file.proofs.writing.write.Tie as tie
+use Rattle.field_file.proofs.write.Statement.{statement}
+use Rattle.field_file.proofs.write.Tie as tie
 
 check-requires : tie.Need-check-requires
 check-requires c κs = search needs
