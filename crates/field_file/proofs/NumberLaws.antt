@@ -9,6 +9,7 @@ use lib.Arith.{le→nltb}
 use lib.IntN.{ℤ, pos, negsuc, natAbs}
 use lib.ListN.{length, getD}
 use Rattle.whole.proofs.Cases.{cond-ind, cond-yes, cond-no}
+use Rattle.sections.proofs.SectionLaws.{length-bytes32, length-bytes16}
 use Rattle.rules.specs.FieldFile.{byteAt, bytes32, number32, bits16, bytes16, number16}
 
 -- every number of the file is a byte
@@ -104,9 +105,7 @@ pub record Code {A : Type 0} (width : ℕ) (bytes : A → List ℕ) (number : Li
   pub written : (file : List ℕ) (i : ℕ) → Bytes file → Has i (bytes (number file i)) file
 
 pub code32 : Code 4 bytes32 number32 (λ n. n < 4294967296)
-unfolding bytes32
-code32 = record { size = λ n. refl; read = number-of-bytes32; written = bytes-of-number32 }
+code32 = record { size = length-bytes32; read = number-of-bytes32; written = bytes-of-number32 }
 
 pub code16 : Code 2 bytes16 number16 (λ z. natAbs z < 32768)
-unfolding bytes16
-code16 = record { size = λ z. refl; read = number-of-bytes16; written = bytes-of-number16 }
+code16 = record { size = length-bytes16; read = number-of-bytes16; written = bytes-of-number16 }

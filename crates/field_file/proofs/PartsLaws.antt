@@ -4,10 +4,10 @@ use mathlib.Core.List.{List, _++_, append-assoc, append-nil}
 use Prim.Native.Nat.{ℕ, zero, suc, _+_, _≤_, _<_}
 use native.Mathlib.Nat.{add-zero, add-suc}
 use native.Mathlib.Omega.{arith}
-use lib.ListN.{length, take, drop, length-append, length-drop, drop-of-length-le}
+use lib.ListN.{length, take, drop, length-append, length-drop}
 use lib.Seq.{length-take-le, take-at, drop-at, drop-drop}
 use Rattle.whole.specs.Table.{blocks, overwrite}
-use Rattle.whole.proofs.OverwriteLaws.{length-overwrite, front-is, overwrite-part}
+use Rattle.whole.proofs.OverwriteLaws.{length-overwrite, overwrite-part}
 
 module _ {A : Type 0} where
   pub blocks-cong : (n : ℕ) (f h : ℕ → List A) → ((i : ℕ) → i < n → f i ≡ h i) → blocks n f ≡ blocks n h
@@ -30,10 +30,6 @@ module _ {A : Type 0} where
       let rest : drop (length (p ++ q)) (drop a l) ≡ drop (length q) d = ap (λ n. drop n (drop a l)) (length-append p q) ∙ sym (drop-drop (length q) (length p) (drop a l)) in
       (λ i. take b (whole i) ++ (q ++ drop (length q) (drop b (whole i)))) ∙ (λ i. take-at (take a l ++ p) d b front i ++ (q ++ drop (length q) (drop-at (take a l ++ p) d b front i)))
       ∙ append-assoc (take a l) p (q ++ drop (length q) d) ∙ sym (ap (λ y. take a l ++ ((p ++ q) ++ y)) rest ∙ ap (λ y. take a l ++ y) (append-assoc p q (drop (length q) d)))
-
-  -- a list written over one that is no longer
-  pub overwrite-all : (p l : List A) → length l ≤ length p → overwrite 0 p l ≡ p
-  overwrite-all p l h = front-is p l ∙ ap (λ y. p ++ y) (drop-of-length-le l {i = length p} h) ∙ append-nil p
 
   -- a part of k numbers from place a on, lent and come back as y, which has p in front
   pub part-written : (a k : ℕ) (p y l : List A) → y ≡ overwrite 0 p (take k (drop a l)) → length p ≤ k → a + k ≤ length l → take a l ++ (y ++ drop k (drop a l)) ≡ overwrite a p l

@@ -10,8 +10,8 @@ use lib.ListN.{length, getD, take, drop, length-append, length-drop, take-append
 use lib.Seq.{length-take-le, getD-take, getD-drop, getD-append-add, drop-drop, ext-getD}
 use Rattle.whole.specs.Table.{blocks}
 use Rattle.whole.proofs.TableLaws.{length-blocks, getD-blocks}
-use Rattle.rules.specs.FieldFile.{byteAt}
-use Rattle.field_file.proofs.NumberLaws.{Bytes, Has, Code}
+use Rattle.rules.specs.FieldFile.{byteAt, bytes32, number32}
+use Rattle.field_file.proofs.NumberLaws.{Bytes, Has, Code, code32}
 
 -- ---- parts one after the other
 pub has-front : (p q : List ℕ) → Has 0 p (p ++ q)
@@ -58,6 +58,12 @@ module _ (w : ℕ) (f : ℕ → List ℕ) (each : (e : ℕ) → length (f e) ≡
       (subst (λ m. Has m (f n) file) (ap (λ m. a + m) (sym (length-blocks w f each n))) (h n (omega arith)))
 
 -- ---- the numbers of a section
+pub length-section : {A : Type 0} (w : ℕ) (bytes : A → List ℕ) (number : List ℕ → ℕ → A) (Fits : A → Type 0) → Code w bytes number Fits → (n : ℕ) (x : ℕ → A) → length (blocks n (λ i. bytes (x i))) ≡ w * n
+length-section w bytes number Fits code n x = length-blocks w (λ i. bytes (x i)) (λ i. code .size (x i)) n ∙ mul-comm n w
+
+pub length-section32 : (n : ℕ) (x : ℕ → ℕ) → length (blocks n (λ i. bytes32 (x i))) ≡ 4 * n
+length-section32 = length-section 4 bytes32 number32 (λ n. n < 4294967296) code32
+
 module _ {A : Type 0} (w : ℕ) (bytes : A → List ℕ) (number : List ℕ → ℕ → A) (Fits : A → Type 0) (code : Code w bytes number Fits) (file : List ℕ) (a : ℕ) (x : ℕ → A) (n : ℕ) where
   place : (i : ℕ) → a + i * w ≡ a + w * i
   place i = ap (λ m. a + m) (mul-comm i w)

@@ -17,9 +17,9 @@ use Rattle.rules.specs.Answers.{accepted, reading, fileAnswer}
 use Rattle.rules.specs.Field.{quadratic, admitted, faces, fieldLength}
 use Rattle.rules.specs.FieldFile.{byteAt, fileLength, readReply, readField, readWind, writeReply, writeFile}
 use Rattle.rules.proofs.FieldLaws.{ranges}
-use Rattle.field.proofs.PlaceLaws.{sized, elements-le, field-is, field-le}
+use Rattle.field.proofs.PlaceLaws.{sized}
 use Rattle.field_file.specs.RoundTrips.{WrittenIsRead, ReadIsWritten, Wrote, Read, FoundAgain, SameBytes}
-use Rattle.field_file.proofs.FileLaws.{table-start, file-length}
+use Rattle.field_file.proofs.LayoutLaws.{length-le}
 use Rattle.field_file.proofs.WrittenThenRead.{Storable, written-is-read-of}
 use Rattle.field_file.proofs.ReadThenWritten.{read-is-written-of}
 
@@ -29,9 +29,7 @@ unfolding quadratic all
 weights-above k h = ltb→lt 0 (quadratic .weight k) (all-at 9 (λ k. ltb 0 (quadratic .weight k)) tt k h)
 
 length-small : (g : Shape) → T (admitted g) → fileLength quadratic g < 4294967296
-length-small g t =
-    let r = ranges g t in
-    omega (arith, file-length quadratic g, table-start quadratic g, field-is g, field-le g (sized r), elements-le g (sized r), r .tracers-small)
+length-small g t = omega (arith, length-le g (sized (ranges g t)))
 
 storable : Storable quadratic
 storable = record { weights = weights-above; offsets = length-small }

@@ -1,6 +1,6 @@
 -- A field written to a file is the field read from it.
 use mathlib.Core.Path.{_≡_, sym, ap, subst, _∙_}
-use mathlib.Core.List.{List, [], _∷_}
+use mathlib.Core.List.{List}
 use Prim.Native.Nat.{ℕ, _+_, _*_, _-_, _≤_, _<_}
 use native.Mathlib.Nat.{zero-add}
 use native.Mathlib.Omega.{arith}
@@ -21,7 +21,7 @@ use Rattle.rules.specs.FieldFile.{byteAt, bytes32, number32, bytes16, number16,
 use Rattle.field_file.specs.RoundTrips.{WrittenIsRead}
 use Rattle.field_file.proofs.NumberLaws.{code32, code16}
 use Rattle.field_file.proofs.SectionLaws.{numbers-read}
-use Rattle.field_file.proofs.FileLaws.{tailStart, field-start, file-length, start-le, Holds, length-file, file-holds}
+use Rattle.field_file.proofs.FileLaws.{tailStart, shapeBytes, field-start, file-length, start-le, Holds, length-file, file-holds}
 use Rattle.field_file.proofs.ReplyLaws.{and-yes, Readable, read-accepted, field-read, wind-read, Writable, write-shown, file-written}
 use Rattle.field_file.proofs.SoundLaws.{all-of, front-table, winds-same, wind-fits, fields-same, number-fits}
 
@@ -30,7 +30,7 @@ module _ (κ : Kind) (g : Shape) (field : List ℕ) (wind : List ℤ) (file : Li
   size : length file ≡ tailStart κ g + 12
   size = h .size ∙ file-length κ g
 
-  tail-byte : (n k : ℕ) → length file - n ≡ tailStart κ g + k → k < 4 → byteAt file (length file - n) ≡ getD (g .nx ∷ g .ny ∷ g .tracers ∷ 0 ∷ []) k 0
+  tail-byte : (n k : ℕ) → length file - n ≡ tailStart κ g + k → k < 4 → byteAt file (length file - n) ≡ getD (shapeBytes g) k 0
   tail-byte n k e l = ap (byteAt file) e ∙ h .has-shape .at k l
 
   shape-found : tailShape file ≡ g

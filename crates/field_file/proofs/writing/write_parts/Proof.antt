@@ -10,7 +10,7 @@ use Rattle.whole.proofs.OverwriteLaws.{part-size}
 use Rattle.rules.specs.Field.{quadratic, faces, fieldLength}
 use Rattle.rules.specs.Calls.{windAt}
 use Rattle.rules.specs.FieldFile.{bytes16}
-use Rattle.field_file.proofs.FileLaws.{field-start, table-start, file-length, numbers}
+use Rattle.field_file.proofs.FileLaws.{field-start, table-start, file-length, fieldBytes}
 use Rattle.field_file.proofs.LayoutLaws.{wind-start, length-le}
 use Rattle.field_file.proofs.FileWritten.{with-winds, with-tracers, with-table, winds-long, tracers-long, table-long, winds-made, table-made, tail-made}
 use Rattle.field_file.proofs.writing.write_parts.Statement.{statement}
@@ -93,7 +93,7 @@ after-tracers : (c : tie.After-write-tracers) → c .write-tracers .last .0 ≡ 
 after-tracers c =
     let b = c .before .before .before .before .before .before .before .before .before .before .before .before .before .before in
     let g = b .args .shape in
-    c .write-tracers .ensures ∙ ap (overwrite (2 * faces g) (numbers quadratic g (b .args .field .now) (b .args .wind .now))) (after-winds (c .before .before .before .before))
+    c .write-tracers .ensures ∙ ap (overwrite (2 * faces g) (fieldBytes quadratic g (b .args .field .now))) (after-winds (c .before .before .before .before))
 
 after-table : (c : tie.After-write-table)
     → take (c .before .before .before .before .before .before .before .before .before .before .before .before .before .table-start .result) (c .before .before .before .before .write-tracers .last .0) ++ (c .write-table .last .0 ++ drop (c .before .before .before .before .before .before .before .before .before .before .before .before .before .table-start .result + 4 * (c .before .before .before .before .before .before .before .before .before .before .before .before .before .before .before .before .before .before .args .shape .tracers + 1) - c .before .before .before .before .before .before .before .before .before .before .before .before .before .table-start .result) (drop (c .before .before .before .before .before .before .before .before .before .before .before .before .before .table-start .result) (c .before .before .before .before .write-tracers .last .0)))
