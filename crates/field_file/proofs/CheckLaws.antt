@@ -1,6 +1,6 @@
 -- The checks of file reading: which tests lead to which answer, and what an accepted reading has shown.
 use mathlib.Core.Path.{_≡_, refl, sym, ap, subst, _∙_}
-use mathlib.Core.Bool.{true, false, _&&_}
+use mathlib.Core.Bool.{true, false}
 use mathlib.Core.List.{List, [], _++_}
 use Prim.Native.Nat.{ℕ, _-_, _≤_, _<_}
 use native.Mathlib.Omega.{arith}
@@ -11,11 +11,11 @@ use lib.ListN.{length}
 use Rattle.whole.specs.Table.{overwrite}
 use Rattle.whole.proofs.Cases.{both-yes}
 use Rattle.rules.specs.declared.Shape.{Shape}
-use Rattle.rules.specs.Answers.{Answer, accepted, refused, answer, after}
-use Rattle.rules.specs.Field.{quadratic, admitted, faces, fieldLength}
+use Rattle.rules.specs.Answers.{Answer, accepted, refused, answer}
+use Rattle.rules.specs.Field.{quadratic, faces, fieldLength}
 use Rattle.rules.specs.Calls.{windSound}
 use Rattle.rules.specs.FieldFile.{fileLength, tailShape, offsetsRight, fileWind, fileField, fieldSound, readReply, readField, readWind}
-use Rattle.rules.proofs.AnswerLaws.{Passed, answer-ind}
+use Rattle.rules.proofs.AnswerLaws.{answer-ind}
 use Rattle.rules.proofs.FieldLaws.{ranges}
 use Rattle.field.specs.Places.{Sized}
 use Rattle.field.proofs.PlaceLaws.{sized}

@@ -52,3 +52,14 @@ module _ (g : Shape) where
   -- a section ends within the file
   pub start-in : (i : ℕ) → i ≤ g .tracers → sectionStart quadratic g (i + 1) ≤ fileLength quadratic g
   start-in i h = omega (arith, length-is, table-is, tracer-start i, tracer-start (g .tracers), mul-le-mul-right (4 * tracerLength quadratic g) h)
+
+  -- the wind section, from start to end: two bytes for each face, and within the file
+  pub wind-span : (start end : ℕ) → start ≡ sectionStart quadratic g 0 → end ≡ sectionStart quadratic g 1 → (start ≡ 0) × (end ≡ 2 * faces g) × (end ≤ fileLength quadratic g)
+  wind-span start end s e = (omega (arith, s, wind-start), omega (arith, e, tracer-start 0), omega (arith, e, start-in 0 (omega arith)))
+
+  -- a tracer's section: four bytes for each number, and within the file
+  pub tracer-span : (s start end : ℕ) → s < g .tracers → start ≡ sectionStart quadratic g (s + 1) → end ≡ sectionStart quadratic g (s + 2)
+      → (end ≡ start + 4 * tracerLength quadratic g) × (end ≤ fileLength quadratic g)
+  tracer-span s start end h hs he =
+      let next : s + 2 ≡ s + 1 + 1 = omega arith in
+      (omega (arith, hs, he, tracer-end s), omega (arith, rw next at he, start-in (s + 1) (omega arith)))

@@ -1,6 +1,6 @@
 -- A section read as its own part of the file: its numbers are those of the whole file, and a tracer's are its part of the field.
 use mathlib.Core.Path.{_≡_, refl, sym, ap, ap₂, _∙_}
-use mathlib.Core.Bool.{Bool, true, false, _&&_}
+use mathlib.Core.Bool.{Bool, false, _&&_}
 use mathlib.Core.List.{List, [], _∷_, _++_, append-assoc, append-nil}
 use Prim.Native.Nat.{ℕ, zero, suc, _+_, _-_, _*_, _≤_, _<_}
 use native.Mathlib.Nat.{add-zero, add-suc, zero-add}
@@ -18,7 +18,7 @@ use Rattle.rules.specs.Field.{quadratic, faces, tracerLength, fieldLength, part
 use Rattle.rules.specs.Calls.{windInRange, windAt, windSound}
 use Rattle.rules.specs.FieldFile.{number32, number16, byteAt, sectionStart, tableStart, fileLength, offsetsRight, fileWind, fileField}
 use Rattle.sections.specs.Numbers.{numbersOf, windsOf}
-use Rattle.field_file.proofs.LayoutLaws.{wind-start, tracer-start, tracer-end}
+use Rattle.field_file.proofs.LayoutLaws.{tracer-start}
 
 -- ---- tables
 module _ {A : Type 0} where

@@ -113,10 +113,10 @@ pub(crate) fn read_tracers(file: &[u8], field: &mut [u32], shape: Shape)
     let tracers = shape.tracers;
     let mut to = 0;
     for s in 0..tracers {
-        let start = layout::section_start(shape, s + 1);
-        let end = layout::section_start(shape, s + 2);
+        let from = layout::section_start(shape, s + 1);
+        let from_end = layout::section_start(shape, s + 2);
         let to_end = to + n;
-        sections::read_numbers(&file[start..end], &mut field[to..to_end], n);
+        sections::read_numbers(&file[from..from_end], &mut field[to..to_end], n);
         to = to_end;
     }
 }

@@ -2,10 +2,9 @@
 // the buffer are long enough.
 ghost use mathlib.Core.Path.{_≡_};
 ghost use Prim.Native.Nat.{_+_, _*_, _≤_};
-ghost use lib.IntN.{pos};
 ghost use lib.ListN.{length, getD};
 ghost use Rattle.whole.specs.Sum.{all};
-ghost use Rattle.whole.specs.Table.{table, blocks, overwrite};
+ghost use Rattle.whole.specs.Table.{blocks, overwrite};
 ghost use Rattle.rules.specs.Calls.{windInRange, windAt};
 ghost use Rattle.rules.specs.FieldFile.{number32, number16, bits16, bytes32, bytes16};
 ghost use Rattle.sections.specs.Numbers.{numbersOf, windsOf};

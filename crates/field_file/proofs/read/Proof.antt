@@ -1,6 +1,5 @@
 use mathlib.Core.Path.{_≡_, sym, ap, _∙_}
 use borrow.Author.Needs.{needs}
-use native.Mathlib.Omega.{arith}
 use lib.ListN.{length}
 use Rattle.rules.specs.Answers.{outcome, accepted}
 use Rattle.field_file.specs.Reading.{tailAnswer, tailReply, shapeReply}

@@ -1,4 +1,4 @@
-use mathlib.Core.Path.{refl, sym, _∙_}
+use mathlib.Core.Path.{sym}
 use native.Mathlib.Omega.{arith}
 use Prim.Native.Nat.{_-_, _*_, _≤_}
 use borrow.Author.Needs.{needs}

@@ -1,6 +1,6 @@
 use mathlib.Core.Path.{_≡_, sym, ap, _∙_}
 use mathlib.Core.Bool.{true}
-use Prim.Native.Nat.{_+_, _-_, _*_, _≤_}
+use Prim.Native.Nat.{_-_, _*_, _≤_}
 use native.Mathlib.Omega.{arith}
 use borrow.Author.Needs.{needs}
 use borrow.Author.Tests.{not-true, not-false}
@@ -10,7 +10,7 @@ use Rattle.whole.proofs.OverwriteLaws.{part-size}
 use Rattle.rules.specs.Field.{quadratic, faces, fieldLength}
 use Rattle.rules.specs.Calls.{windInRange, windSound}
 use Rattle.rules.specs.FieldFile.{number16, fileLength, offsetsRight, fileWind}
-use Rattle.field_file.proofs.LayoutLaws.{wind-start, tracer-start, start-in}
+use Rattle.field_file.proofs.LayoutLaws.{wind-span}
 use Rattle.field_file.proofs.ReadLaws.{winds-tested}
 use Rattle.field_file.proofs.CheckLaws.{check-3, check-4-field, check-4-wind, check-5, check-6, check-done, right-length}
 use Rattle.field_file.proofs.reading.check.Statement.{statement}
@@ -62,12 +62,12 @@ section-start-requires c κs = search needs
 section-start-requires-2 : tie.Need-section-start-requires-2
 section-start-requires-2 c κs = search needs
 
--- the wind section: two bytes for each face, from the start, and within the file
+-- the wind section
 span : (c : tie.After-section-start2) → (c .before .section-start .result ≡ 0) × (c .section-start2 .result ≡ 2 * faces (c .before .before .before .before .before .before .before .before .before .args .shape)) × (c .section-start2 .result ≤ length (c .before .before .before .before .before .before .before .before .before .args .file .now))
 span c =
     let e = c .before .before .before .before .before .before in
-    let g = e .before .before .before .args .shape in
-    (omega (arith, c .before .section-start .ensures, wind-start g), omega (arith, c .section-start2 .ensures, tracer-start g 0), omega (arith, c .section-start2 .ensures, start-in g 0 (omega arith), long e))
+    let t = wind-span (e .before .before .before .args .shape) (c .before .section-start .result) (c .section-start2 .result) (c .before .section-start .ensures) (c .section-start2 .ensures) in
+    (t .0, t .1, omega (arith, t .2, long e))
 
 sub-winds-sound : tie.Need-sub-winds-sound
 sub-winds-sound c = omega (arith, span c)

@@ -1,4 +1,4 @@
-use mathlib.Core.Path.{_≡_, refl, sym, ap, ap₂, _∙_}
+use mathlib.Core.Path.{_≡_, refl, sym, ap, _∙_}
 use mathlib.Core.Bool.{true, false}
 use Prim.Native.Nat.{_+_, _-_, _*_, _≤_}
 use native.Mathlib.Omega.{arith}
@@ -7,7 +7,7 @@ use borrow.Author.Tests.{eq-eqb, ne-eqb}
 use lib.ListN.{length}
 use Rattle.whole.specs.Sum.{all}
 use Rattle.rules.specs.Field.{quadratic}
-use Rattle.rules.specs.FieldFile.{number32, fileLength, tableStart, sectionStart}
+use Rattle.rules.specs.FieldFile.{number32, fileLength, tableStart}
 use Rattle.sections.proofs.SectionLaws.{all-more, all-fails}
 use Rattle.field_file.proofs.LayoutLaws.{length-is, length-le}
 use Rattle.field_file.proofs.ReadLaws.{offset, wrong-length, wrong-table, by-offsets}
@@ -26,11 +26,11 @@ file-length-requires c κs = search needs
 returns : tie.Need-returns Inv-loop μ-loop
 returns c =
     let a = c .before .before .before .args in
-    wrong-length (a .shape) (a .file .now) (λ e. c .if1 .taken (e ∙ sym (c .before .file-length .ensures)))
+    wrong-length (a .shape) (a .file .now) (λ e. omega (arith, e, c .if1 .taken, c .before .file-length .ensures))
 
 -- what each passed test says
 long : (c : tie.Else1 Inv-loop μ-loop) → length (c .before .before .before .args .file .now) ≡ fileLength quadratic (c .before .before .before .args .shape)
-long c = c .if1 .left ∙ c .before .file-length .ensures
+long c = omega (arith, c .if1 .left, c .before .file-length .ensures)
 
 table-start-requires : tie.Need-table-start-requires Inv-loop μ-loop
 table-start-requires c κs = search needs

@@ -9,7 +9,7 @@ use Rattle.whole.proofs.OverwriteLaws.{part-size, filled-front}
 use Rattle.rules.specs.Field.{quadratic, tracerLength, fieldLength}
 use Rattle.field.proofs.PlaceLaws.{tracer-room, field-is, field-le}
 use Rattle.field.proofs.SearchLaws.{row-more}
-use Rattle.field_file.proofs.LayoutLaws.{tracer-end, start-in}
+use Rattle.field_file.proofs.LayoutLaws.{tracer-span}
 use Rattle.field_file.proofs.ReadLaws.{fieldNumber, field-numbers, tracer-read}
 use Rattle.field_file.proofs.reading.read_tracers.Statement.{statement}
 use Rattle.field_file.proofs.reading.read_tracers.Tie as tie
@@ -39,16 +39,14 @@ add-section-start-2 c = search needs
 section-start-requires-2 : tie.Need-section-start-requires-2 Inv-loop μ-loop
 section-start-requires-2 c κs = search needs
 
--- the section of a turn: four bytes for each number, and within the file
+-- the section of a turn
 span : (c : tie.After-section-start2 Inv-loop μ-loop) → (c .section-start2 .result ≡ c .before .section-start .result + 4 * tracerLength quadratic (c .before .before .before .before .before .before .before .args .shape)) × (c .section-start2 .result ≤ length (c .before .before .before .before .before .before .before .args .file .now))
 span c =
-    let b = c .before .before .before in
-    let s = b .before .before .before .before in
-    let next : b .loop .s + 2 ≡ b .loop .s + 1 + 1 = omega arith in
-    let e = c .section-start2 .ensures in
-    (omega (arith, e, c .before .section-start .ensures, tracer-end (s .args .shape) (b .loop .s)), omega (arith, rw next at e, start-in (s .args .shape) (b .loop .s + 1) (omega arith), s .pre .1 .0))
+    let s = c .before .before .before .before .before .before .before in
+    let t = tracer-span (s .args .shape) (c .before .before .before .loop .s) (c .before .section-start .result) (c .section-start2 .result) (c .before .before .loop-test .taken) (c .before .section-start .ensures) (c .section-start2 .ensures) in
+    (t .0, omega (arith, t .1, s .pre .1 .0))
 
--- and the tracer's part of the field
+-- the tracer's part that a turn writes ends within the field
 room : (c : tie.In-loop Inv-loop μ-loop) → (c .before .loop .to + c .before .before .tracer-length .result ≤ length (c .before .loop .field)) × (c .before .loop .to + c .before .before .tracer-length .result ≤ 327680)
 room c =
     let l = c .before in

@@ -1,5 +1,5 @@
 use mathlib.Core.Path.{_≡_, ap, _∙_}
-use Prim.Native.Nat.{_+_, _-_, _*_, _≤_}
+use Prim.Native.Nat.{_-_, _*_, _≤_}
 use native.Mathlib.Omega.{arith}
 use borrow.Author.Needs.{needs}
 use lib.ListN.{length, take, drop}
@@ -7,7 +7,7 @@ use Rattle.whole.specs.Table.{overwrite}
 use Rattle.whole.proofs.OverwriteLaws.{part-size}
 use Rattle.rules.specs.Field.{faces}
 use Rattle.sections.specs.Numbers.{windsOf}
-use Rattle.field_file.proofs.LayoutLaws.{wind-start, tracer-start, start-in}
+use Rattle.field_file.proofs.LayoutLaws.{wind-span}
 use Rattle.field_file.proofs.ReadLaws.{winds-are}
 use Rattle.field_file.proofs.reading.read_wind.Statement.{statement}
 use Rattle.field_file.proofs.reading.read_wind.Tie as tie
@@ -18,12 +18,12 @@ section-start-requires c κs = search needs
 section-start-requires-2 : tie.Need-section-start-requires-2
 section-start-requires-2 c κs = search needs
 
--- the wind section: two bytes for each face, from the start, and within the file
+-- the wind section
 span : (c : tie.After-section-start2) → (c .before .section-start .result ≡ 0) × (c .section-start2 .result ≡ 2 * faces (c .before .before .before .args .shape)) × (c .section-start2 .result ≤ length (c .before .before .before .args .file .now))
 span c =
     let s = c .before .before .before in
-    let g = s .args .shape in
-    (omega (arith, c .before .section-start .ensures, wind-start g), omega (arith, c .section-start2 .ensures, tracer-start g 0), omega (arith, c .section-start2 .ensures, start-in g 0 (omega arith), s .pre .1))
+    let t = wind-span (s .args .shape) (c .before .section-start .result) (c .section-start2 .result) (c .before .section-start .ensures) (c .section-start2 .ensures) in
+    (t .0, t .1, omega (arith, t .2, s .pre .1))
 
 sub-read-winds : tie.Need-sub-read-winds
 sub-read-winds c = omega (arith, span c)

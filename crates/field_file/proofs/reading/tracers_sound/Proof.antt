@@ -10,7 +10,7 @@ use Rattle.whole.proofs.OverwriteLaws.{part-size}
 use Rattle.rules.specs.Field.{quadratic, part, sound, tracerLength}
 use Rattle.rules.specs.FieldFile.{fileField, fieldSound}
 use Rattle.sections.proofs.SectionLaws.{all-more, all-fails}
-use Rattle.field_file.proofs.LayoutLaws.{tracer-end, start-in}
+use Rattle.field_file.proofs.LayoutLaws.{tracer-span}
 use Rattle.field_file.proofs.ReadLaws.{section-part}
 use Rattle.field_file.proofs.reading.tracers_sound.Statement.{statement}
 use Rattle.field_file.proofs.reading.tracers_sound.Tie as tie
@@ -37,14 +37,12 @@ add-section-start-2 c = search needs
 section-start-requires-2 : tie.Need-section-start-requires-2 Inv-loop μ-loop
 section-start-requires-2 c κs = search needs
 
--- the section of a turn: four bytes for each number, and within the file
+-- the section of a turn
 span : (c : tie.After-section-start2 Inv-loop μ-loop) → (c .section-start2 .result ≡ c .before .section-start .result + 4 * tracerLength quadratic (c .before .before .before .before .before .args .shape)) × (c .section-start2 .result ≤ length (c .before .before .before .before .before .args .file .now))
 span c =
-    let b = c .before .before .before in
-    let s = b .before .before in
-    let next : b .loop .s + 2 ≡ b .loop .s + 1 + 1 = omega arith in
-    let e = c .section-start2 .ensures in
-    (omega (arith, e, c .before .section-start .ensures, tracer-end (s .args .shape) (b .loop .s)), omega (arith, rw next at e, start-in (s .args .shape) (b .loop .s + 1) (omega arith), s .pre .1))
+    let s = c .before .before .before .before .before in
+    let t = tracer-span (s .args .shape) (c .before .before .before .loop .s) (c .before .section-start .result) (c .section-start2 .result) (c .before .before .loop-test .taken) (c .before .section-start .ensures) (c .section-start2 .ensures) in
+    (t .0, omega (arith, t .1, s .pre .1))
 
 sub-tracer-sound : tie.Need-sub-tracer-sound Inv-loop μ-loop
 sub-tracer-sound c = omega (arith, span c)
