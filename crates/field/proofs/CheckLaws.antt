@@ -110,11 +110,11 @@ module _ (g : Shape) (s : ℕ) (f : List ℕ) where
   first-accepted ds y t e = prefix-accepted first ds (total quadratic g p) t y e
 
 -- ---- the reading of the total, by its tests
-searched-sum : (b : Bool) (n t : ℕ) → cond b (Sum n) Unsound ≡ Sum t → (b ≡ true) × (n ≡ t)
+pub searched-sum : (b : Bool) (n t : ℕ) → cond b (Sum n) Unsound ≡ Sum t → (b ≡ true) × (n ≡ t)
 searched-sum true n t e = (refl, cc)
 searched-sum false n t e = let z : _≡_ {A = ℕ} 0 1 = cc in absurd (omega arith)
 
-searched-unsound : (b : Bool) (n : ℕ) → cond b (Sum n) Unsound ≡ Unsound → b ≡ false
+pub searched-unsound : (b : Bool) (n : ℕ) → cond b (Sum n) Unsound ≡ Unsound → b ≡ false
 searched-unsound true n e = let z : _≡_ {A = ℕ} 0 1 = cc in absurd (omega arith)
 searched-unsound false n e = refl
 

@@ -1,4 +1,5 @@
--- The search of a tracer's part: what holds of the first n elements, and what the search's three ways out say.
+-- The searches: a test of all indices, turn by turn; what holds of the first n elements of a tracer's part, and what the three ways
+-- out of its search say.
 use mathlib.Core.Path.{_≡_, refl, ap, _∙_}
 use mathlib.Core.Bool.{Bool, true, false, _&&_}
 use mathlib.Core.List.{List}
@@ -19,6 +20,7 @@ use Rattle.field.specs.Search.{searched}
 use Rattle.field.specs.declared.search.Total.the-variants.{Sum, Unsound}
 use Rattle.field.proofs.ElementLaws.{numbersSum, mass-is}
 
+-- ---- a tracer's part
 weights-36 : weightSum quadratic ≡ 36
 unfolding weightSum quadratic sum
 weights-36 = refl

@@ -15,7 +15,7 @@ use search::Total;
 pub mod element; // element.rt: one element's ten numbers
 mod fill; // fill.rt: loops that fill a buffer
 pub mod places; // places.rt: shapes, and where numbers stand
-pub mod search; // search.rt: the search of a tracer's numbers
+pub mod search; // search.rt: searches of stored winds and of a tracer's numbers
 
 // A tracer's total. Its checks (2, 4, 6, 7) are the first ones of every call on a sound tracer.
 pub fn total(field: &[u32], shape: Shape, tracer: usize) -> Reading

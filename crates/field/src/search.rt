@@ -1,13 +1,31 @@
-// The search of a tracer's numbers: "by rows, elements and numbers ends at the first break".
+// Searches of stored numbers: the winds, and a tracer's numbers, "by rows, elements and numbers ends at the first break".
 ghost use mathlib.Core.Path.{_≡_};
+ghost use Prim.Native.Nat.{_≤_};
 ghost use lib.ListN.{length};
-ghost use Rattle.rules.specs.Field.{quadratic, tracerLength};
+ghost use Rattle.rules.specs.Field.{quadratic, faces, tracerLength};
+ghost use Rattle.rules.specs.Calls.{windSound};
 ghost use Rattle.field.specs.Places.{Sized};
 ghost use Rattle.field.specs.Search.{searched};
 use super::element::WEIGHTS;
+use super::places;
 use rules::Shape;
 
-// What the search finds: the tracer's total, or a remainder or a total out of range.
+// A leaf: whether every stored wind is in its range.
+pub fn winds_sound(wind: &[i16], shape: Shape) -> bool
+    requires { ⌜ Sized shape ⌝ }
+    requires { ⌜ faces shape ≤ length (now wind) ⌝ }
+    ensures { λ r. ⌜ r ≡ windSound shape (now (wind .entry)) ⌝ }
+{
+    let n = places::faces(shape);
+    for f in 0..n {
+        if !places::wind_in_range(wind[f]) {
+            return false;
+        }
+    }
+    true
+}
+
+// What the search of a tracer finds: the tracer's total, or a remainder or a total out of range.
 pub enum Total {
     Sum(u64),
     Unsound,

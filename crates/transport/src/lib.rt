@@ -2,12 +2,10 @@
 // The call has no `requires`: what document 01 doesn't admit is refused by its number, and a refused call writes nothing.
 ghost use mathlib.Core.Path.{_≡_};
 ghost use mathlib.Core.Bool.{_&&_};
-ghost use Prim.Native.Nat.{_≤_};
 ghost use lib.Dec.{leb};
-ghost use lib.ListN.{length};
 ghost use Rattle.rules.specs.Answers.{outcome, plain};
 ghost use Rattle.rules.specs.Field.{quadratic, faces, workNeeded, fieldLength};
-ghost use Rattle.rules.specs.Calls.{step, lengthsLent, lent, call, windSound, reportAfter, WorkAfter};
+ghost use Rattle.rules.specs.Calls.{step, lengthsLent, lent, call, reportAfter, WorkAfter};
 ghost use Rattle.field.specs.Places.{Sized};
 use rules::Outcome;
 use rules::Reading;
@@ -34,21 +32,6 @@ fn lent_enough(field: usize, wind: usize, report: usize, work: usize, shape: Sha
     64 * field::places::elements(shape) <= work
 }
 
-// Whether every stored wind is in its range.
-fn winds_sound(wind: &[i16], shape: Shape) -> bool
-    requires { ⌜ Sized shape ⌝ }
-    requires { ⌜ faces shape ≤ length (now wind) ⌝ }
-    ensures { λ r. ⌜ r ≡ windSound shape (now (wind .entry)) ⌝ }
-{
-    let n = field::places::faces(shape);
-    for f in 0..n {
-        if !field::places::wind_in_range(wind[f]) {
-            return false;
-        }
-    }
-    true
-}
-
 // The checks of a step, for a report and a work of these lengths: 2, 4, 5, and then 6 and 7 as a reading of the total meets them.
 fn check(
     field: &[u32],
@@ -66,7 +49,7 @@ fn check(
     if !lent_enough(field.len(), wind.len(), report, work, shape) {
         return Outcome::Refused(Refusal::ShortBuffer);
     }
-    if !winds_sound(wind, shape) {
+    if !field::search::winds_sound(wind, shape) {
         return Outcome::Refused(Refusal::WindOutOfRange);
     }
     let found = field::total(field, shape, tracer);

@@ -1,6 +1,6 @@
 -- Laws of sums over a number of terms.
 use mathlib.Core.Path.{_≡_, refl, sym, ap, ap₂, subst, _∙_}
-use mathlib.Core.Bool.{Bool, true, false, _&&_}
+use mathlib.Core.Bool.{Bool, true, false, not}
 use mathlib.Core.Logic.{_≢_}
 use Prim.Native.Nat.{ℕ, zero, suc, _+_, _*_, _≤_, _<_}
 use native.Mathlib.Nat.{mul-zero, mul-add, mul-comm, le-refl, add-zero, add-suc}
@@ -11,7 +11,7 @@ use lib.Dec.{T}
 use lib.IntN.{ℤ, pos, natAbs, _+ℤ_, _*ℤ_, +ℤ-idl, +ℤ-idr, +ℤ-assoc}
 use Rattle.whole.specs.Parts.{positive, negative}
 use Rattle.whole.specs.Sum.{sum, sumℤ, all}
-use Rattle.whole.proofs.Cases.{both-yes}
+use Rattle.whole.proofs.Cases.{both-yes, either}
 use Rattle.whole.proofs.WholeLaws.{add-parts, eq-parts, abs-add, pos-injective, positive-mul, negative-mul}
 
 -- ---- sums of naturals
@@ -142,21 +142,11 @@ unfolding all
 all-more n f e h = rw (add-one n, e, h)
 
 pub all-fails : (n : ℕ) (f : ℕ → Bool) (k : ℕ) → k < n → f k ≡ false → all n f ≡ false
-unfolding all
-all-fails zero f k h e = let c : ⊥ = omega arith in absurd c
-all-fails (suc n) f k h e = go (ℕ-discrete k n) (λ l. all-fails n f k l e)
+all-fails n f k h e = either (all n f) (λ t. let q = rw e at (all-at n f t k h) in absurd q) (λ t. none (all n f) t)
   where
-    last : (a b : Bool) → b ≡ false → (a && b) ≡ false
-    last true b q = q
-    last false b q = refl
-
-    first : (a b : Bool) → a ≡ false → (a && b) ≡ false
-    first true b q = let z : _≡_ {A = ℕ} 0 1 = cc in absurd (omega arith)
-    first false b q = refl
-
-    go : Dec (k ≡ n) → (k < n → all n f ≡ false) → (all n f && f n) ≡ false
-    go (yes q) ih = last (all n f) (f n) (ap f (sym q) ∙ e)
-    go (no q) ih = first (all n f) (f n) (ih (omega (arith, q)))
+    none : (b : Bool) → T (not b) → b ≡ false
+    none true t = absurd t
+    none false t = refl
 
 -- ---- one term more, and more terms
 pub sumℤ-more : (n : ℕ) (f : ℕ → ℤ) → sumℤ (n + 1) f ≡ sumℤ n f +ℤ f n

@@ -10,8 +10,8 @@ use Rattle.whole.specs.Sum.{all}
 use Rattle.rules.specs.Field.{faces}
 use Rattle.rules.specs.Calls.{windInRange, windAt, windSound}
 use Rattle.whole.proofs.SumLaws.{all-more, all-fails}
-use Rattle.transport.proofs.winds_sound.Statement.{statement}
-use Rattle.transport.proofs.winds_sound.Tie as tie
+use Rattle.field.proofs.search.winds_sound.Statement.{statement}
+use Rattle.field.proofs.search.winds_sound.Tie as tie
 
 abbrev Inv-loop : tie.InvT-loop
 Inv-loop wind n f₀ f = (f ≤ n) × (all f (λ k. windInRange (windAt wind k)) ≡ true)
