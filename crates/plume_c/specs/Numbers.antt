@@ -1,11 +1,12 @@
 -- Shapes, faces and answers as the C interface passes them.
 use mathlib.Core.Path.{_≡_}
-use Prim.Native.Nat.{ℕ, zero, suc, _≤_}
+use Prim.Native.Nat.{ℕ, zero, suc, _+_, _*_, _≤_}
 use lib.IntN.{ℤ, pos, negℤ}
 use Rattle.rules.specs.declared.Shape.{Shape}
 use Rattle.rules.specs.declared.Face.{Face}
 use Rattle.rules.specs.declared.Way.the-variants.{East, North}
 use Rattle.rules.specs.Answers.{Answer, accepted, refused}
+use Rattle.field.specs.Places.{Sized}
 
 -- a shape from its three numbers
 abbrev pub shapeOf : ℕ → ℕ → ℕ → Shape
@@ -27,6 +28,18 @@ code (refused n) = n
 unfoldable pub numberOr : Answer ℕ → ℤ
 numberOr (accepted n) = pos n
 numberOr (refused n) = negℤ (pos n)
+
+-- the shape that is answered, as one number, or the refusal's number negated
+abbrev pub shapeNumber : Shape → ℕ
+shapeNumber g = g .nx + 256 * g .ny + 65536 * g .tracers
+
+unfoldable pub shapeOr : Answer Shape → ℤ
+shapeOr (accepted g) = pos (shapeNumber g)
+shapeOr (refused n) = negℤ (pos n)
+
+-- an answered shape is an admitted one
+pub record SmallShape (a : Answer Shape) : Type 0 where
+  pub small : (g : Shape) → a ≡ accepted g → Sized g
 
 -- an answered number is at most the limit
 pub record Small (a : Answer ℕ) : Type 0 where

@@ -3,7 +3,8 @@
 ghost use mathlib.Core.Path.{_≡_};
 ghost use Rattle.rules.specs.Field.{quadratic};
 ghost use Rattle.rules.specs.Calls.{load, emission, withdrawal, step, lent, call, reportAfter, WorkAfter, massReading, totalReading, freshReply, freshField, freshWind, windReply, windAfter};
-ghost use Rattle.plume_c.specs.Numbers.{shapeOf, faceOf, code, numberOr};
+ghost use Rattle.rules.specs.FieldFile.{readReply, readField, readWind, writeReply, writeFile};
+ghost use Rattle.plume_c.specs.Numbers.{shapeOf, faceOf, code, numberOr, shapeOr};
 use rules::Shape;
 
 mod numbers; // numbers.rt: answers and faces as numbers
@@ -183,4 +184,35 @@ pub extern "C" fn plume_total(
         tracers: smokes,
     };
     numbers::number_or(field::total(field, shape, smoke))
+}
+
+// Reads a field file: its shape as nx + 256 ny + 65536 K.
+#[no_mangle]
+pub extern "C" fn plume_read(field: &mut [u32], wind: &mut [i16], file: &[u8]) -> i64
+    ensures { λ r. ⌜ r ≡ shapeOr (readReply quadratic (now (file .entry)) (now (field .entry)) (now (wind .entry))) ⌝ }
+    ensures { λ _. ⌜ now (field .exit) ≡ readField quadratic (now (file .entry)) (now (field .entry)) (now (wind .entry)) ⌝ }
+    ensures { λ _. ⌜ now (wind .exit) ≡ readWind quadratic (now (file .entry)) (now (field .entry)) (now (wind .entry)) ⌝ }
+{
+    numbers::shape_or(field_file::read(file, field, wind))
+}
+
+// Writes a field file: its length in bytes.
+#[no_mangle]
+pub extern "C" fn plume_write(
+    file: &mut [u8],
+    field: &[u32],
+    wind: &[i16],
+    nx: usize,
+    ny: usize,
+    smokes: usize,
+) -> i64
+    ensures { λ r. ⌜ r ≡ numberOr (writeReply quadratic (shapeOf nx ny smokes) (now (field .entry)) (now (wind .entry)) (now (file .entry))) ⌝ }
+    ensures { λ _. ⌜ now (file .exit) ≡ writeFile quadratic (shapeOf nx ny smokes) (now (field .entry)) (now (wind .entry)) (now (file .entry)) ⌝ }
+{
+    let shape = Shape {
+        nx,
+        ny,
+        tracers: smokes,
+    };
+    numbers::number_or(field_file::write(file, field, wind, shape))
 }

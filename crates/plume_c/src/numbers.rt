@@ -1,11 +1,14 @@
 // Answers and faces as numbers.
 ghost use mathlib.Core.Path.{_≡_};
+ghost use lib.IntN.{pos, negℤ};
 ghost use Rattle.whole.specs.Bound.{Are};
-ghost use Rattle.rules.specs.Answers.{outcome, reading};
-ghost use Rattle.plume_c.specs.Numbers.{faceOf, code, numberOr, Small};
+ghost use Rattle.rules.specs.Answers.{number, outcome, reading, fileAnswer};
+ghost use Rattle.plume_c.specs.Numbers.{faceOf, code, numberOr, Small, shapeOr, SmallShape};
 use rules::Face;
+use rules::FileRead;
 use rules::Outcome;
 use rules::Reading;
+use rules::Refusal;
 use rules::Way;
 
 // 0 for an accepted call, else the refusal's number.
@@ -18,6 +21,13 @@ pub(crate) fn code(answer: Outcome) -> u8
     }
 }
 
+// A refusal's number negated.
+fn negated(r: Refusal) -> i64
+    ensures { λ z. ⌜ Are 10 z (negℤ (pos (number r))) ⌝ }
+{
+    0 - (rules::refusal_number(r) as i64)
+}
+
 // The number that is answered, or the refusal's number negated. A leaf: the number is at most the limit.
 pub(crate) fn number_or(answer: Reading) -> i64
     requires { ⌜ Small (reading answer) ⌝ }
@@ -25,7 +35,18 @@ pub(crate) fn number_or(answer: Reading) -> i64
 {
     match answer {
         Reading::Number(n) => n as i64,
-        Reading::Refused(r) => 0 - (rules::refusal_number(r) as i64),
+        Reading::Refused(r) => negated(r),
+    }
+}
+
+// The shape that is answered, as nx + 256 ny + 65536 K, or the refusal's number negated. A leaf: the shape is admitted.
+pub(crate) fn shape_or(answer: FileRead) -> i64
+    requires { ⌜ SmallShape (fileAnswer answer) ⌝ }
+    ensures { λ r. ⌜ Are 100000000 r (shapeOr (fileAnswer answer)) ⌝ }
+{
+    match answer {
+        FileRead::Found(shape) => (shape.nx + 256 * shape.ny + 65536 * shape.tracers) as i64,
+        FileRead::Refused(r) => negated(r),
     }
 }
 

@@ -1,8 +1,7 @@
 use mathlib.Core.Path.{ap}
 use native.Mathlib.Omega.{arith}
-use Rattle.whole.proofs.Sizes.{sizes, fits}
 use Rattle.rules.specs.Answers.{reading}
-use Rattle.plume_c.proofs.Laws.{number-is, refusal-small, refusal-is}
+use Rattle.plume_c.proofs.Laws.{number-is, refusal-is}
 use borrow.Author.Needs.{needs}
 use Rattle.plume_c.proofs.numbers.number_or.Statement.{statement}
 use Rattle.plume_c.proofs.numbers.number_or.Tie as tie
@@ -16,30 +15,16 @@ cast-result c = let h = c .before .before .before .pre .small (c .before .answer
 enum-known-answer-2 : tie.Need-enum-known-answer-2
 enum-known-answer-2 c = search needs
 
-refusal-number-requires : tie.Need-refusal-number-requires
-refusal-number-requires c κs = search needs
-
-cast-result-2 : tie.Need-cast-result-2
-cast-result-2 c = search needs
-
-sub-result : tie.Need-sub-result
-sub-result c = let h = refusal-small (c .refusal-number .result) (c .before .before .answer2 .given .0 .0) (c .refusal-number .ensures) in fits (search sizes depth 20) tt
+negated-requires : tie.Need-negated-requires
+negated-requires c κs = search needs
 
 returns : tie.Need-returns
 returns c = number-is _ _ (c .before .before .before .pre) (ap reading (c .before .answer .given .1))
 
 returns-2 : tie.Need-returns-2
-returns-2 c = refusal-is _ (c .refusal-number .result) (c .before .before .answer2 .given .0 .0) (c .refusal-number .ensures) (ap reading (c .before .before .answer2 .given .1))
+returns-2 c = refusal-is _ (c .negated .result) (c .before .before .answer2 .given .0 .0) (c .negated .ensures) (ap reading (c .before .before .answer2 .given .1))
 
 pub number-or-spec : {M : Type 1} → statement M
 number-or-spec =
     tie.close
-    (tie.spec
-    enum-known-answer
-    cast-result
-    enum-known-answer-2
-    refusal-number-requires
-    cast-result-2
-    sub-result
-    returns
-    returns-2)
+    (tie.spec enum-known-answer cast-result enum-known-answer-2 negated-requires returns returns-2)
