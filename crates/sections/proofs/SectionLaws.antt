@@ -1,13 +1,12 @@
 -- Numbers as bytes: stores in a row, two's complement at 16 bits, and the loops that read and write a section.
 use mathlib.Core.Path.{_≡_, refl, sym, ap, _∙_}
-use mathlib.Core.Bool.{Bool, true, false, not}
+use mathlib.Core.Bool.{true, false}
 use mathlib.Core.List.{List, [], _∷_, _++_, append-assoc}
 use Prim.Native.Nat.{ℕ, zero, suc, _+_, _-_, _*_, _≤_, _<_}
 use native.Mathlib.Nat.{zero-add}
 use native.Mathlib.Numerals.{add-one}
 use native.Mathlib.Omega.{arith}
 use borrow.Author.Tests.{lt-ltb, le-ltb}
-use lib.Dec.{T}
 use lib.IntN.{ℤ, pos, negsuc, _-ℤ_}
 use lib.ListN.{length, set, take, drop}
 use lib.Seq.{sets, sets-eq, drop-drop}
@@ -15,10 +14,7 @@ use lib.Signed.{ltZ}
 use mir.Syntax.{w16}
 use mir.Val.{SFits, toZ, ofZ}
 use mir.Facts.{toZ-ofZ, toZ-pos}
-use Rattle.whole.specs.Sum.{all}
 use Rattle.whole.specs.Table.{blocks, overwrite}
-use Rattle.whole.proofs.Cases.{either}
-use Rattle.whole.proofs.SumLaws.{all-at}
 use Rattle.whole.proofs.TableLaws.{length-blocks, fill-block}
 use Rattle.whole.proofs.OverwriteLaws.{front-is}
 use Rattle.rules.specs.FieldFile.{bits16, bytes32, bytes16, number16, byteAt}
@@ -101,15 +97,3 @@ module _ (w : ℕ) (f : ℕ → List ℕ) (each : (i : ℕ) → length (f i) ≡
 
   pub written : (n : ℕ) (l : List ℕ) → blocks n f ++ drop (n * w) l ≡ overwrite 0 (blocks n f) l
   written n l = ap (λ k. blocks n f ++ drop k l) (sym (length-blocks w f each n)) ∙ sym (front-is (blocks n f) l)
-
--- ---- a test of all indices
-pub all-more : (n : ℕ) (f : ℕ → Bool) → all n f ≡ true → f n ≡ true → all (n + 1) f ≡ true
-unfolding all
-all-more n f e h = rw (add-one n, e, h)
-
-pub all-fails : (n : ℕ) (f : ℕ → Bool) (k : ℕ) → k < n → f k ≡ false → all n f ≡ false
-all-fails n f k h e = either (all n f) (λ t. let q = rw e at (all-at n f t k h) in absurd q) (λ t. none (all n f) t)
-  where
-    none : (b : Bool) → T (not b) → b ≡ false
-    none true t = absurd t
-    none false t = refl

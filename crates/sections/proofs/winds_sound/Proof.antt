@@ -9,7 +9,7 @@ use mir.Facts.{toZ-ofZ}
 use Rattle.whole.specs.Sum.{all}
 use Rattle.rules.specs.Calls.{windInRange}
 use Rattle.rules.specs.FieldFile.{number16}
-use Rattle.sections.proofs.SectionLaws.{all-more, all-fails}
+use Rattle.field.proofs.SearchLaws.{all-more, all-fails}
 use Rattle.sections.proofs.winds_sound.Statement.{statement}
 use Rattle.sections.proofs.winds_sound.Tie as tie
 

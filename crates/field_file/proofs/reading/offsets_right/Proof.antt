@@ -8,7 +8,7 @@ use lib.ListN.{length}
 use Rattle.whole.specs.Sum.{all}
 use Rattle.rules.specs.Field.{quadratic}
 use Rattle.rules.specs.FieldFile.{number32, fileLength, tableStart}
-use Rattle.sections.proofs.SectionLaws.{all-more, all-fails}
+use Rattle.field.proofs.SearchLaws.{all-more, all-fails}
 use Rattle.field_file.proofs.LayoutLaws.{length-is, length-le}
 use Rattle.field_file.proofs.ReadLaws.{offset, wrong-length, wrong-table, by-offsets}
 use Rattle.field_file.proofs.reading.offsets_right.Statement.{statement}

@@ -9,7 +9,7 @@ use Rattle.whole.specs.Sum.{all}
 use Rattle.whole.proofs.OverwriteLaws.{part-size}
 use Rattle.rules.specs.Field.{quadratic, part, sound, tracerLength}
 use Rattle.rules.specs.FieldFile.{fileField, fieldSound}
-use Rattle.sections.proofs.SectionLaws.{all-more, all-fails}
+use Rattle.field.proofs.SearchLaws.{all-more, all-fails}
 use Rattle.field_file.proofs.LayoutLaws.{tracer-span}
 use Rattle.field_file.proofs.ReadLaws.{section-part}
 use Rattle.field_file.proofs.reading.tracers_sound.Statement.{statement}

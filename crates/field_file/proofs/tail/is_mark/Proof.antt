@@ -8,7 +8,7 @@ use lib.Dec.{eqb}
 use lib.ListN.{getD}
 use Rattle.whole.specs.Sum.{all}
 use Rattle.rules.specs.FieldFile.{byteAt, mark}
-use Rattle.sections.proofs.SectionLaws.{all-more, all-fails}
+use Rattle.field.proofs.SearchLaws.{all-more, all-fails}
 use Rattle.field_file.proofs.tail.is_mark.Statement.{statement}
 use Rattle.field_file.proofs.tail.is_mark.Tie as tie
 
