@@ -7,7 +7,7 @@ ghost use Rattle.field.specs.Places.{Sized};
 use rules::Shape;
 
 // Where section i starts: the wind's is section 0, tracer s's is section s + 1, and the table comes after the last.
-pub fn section_start(shape: Shape, i: usize) -> usize
+pub(crate) fn section_start(shape: Shape, i: usize) -> usize
     requires { ⌜ Sized shape ⌝ }
     requires { ⌜ i ≤ shape .tracers + 1 ⌝ }
     ensures { λ r. ⌜ r ≡ sectionStart quadratic shape i ⌝ }
@@ -19,7 +19,7 @@ pub fn section_start(shape: Shape, i: usize) -> usize
 }
 
 // Where the table of offsets starts.
-pub fn table_start(shape: Shape) -> usize
+pub(crate) fn table_start(shape: Shape) -> usize
     requires { ⌜ Sized shape ⌝ }
     ensures { λ r. ⌜ r ≡ tableStart quadratic shape ⌝ }
 {
@@ -27,7 +27,7 @@ pub fn table_start(shape: Shape) -> usize
 }
 
 // The length of a file in bytes.
-pub fn file_length(shape: Shape) -> usize
+pub(crate) fn file_length(shape: Shape) -> usize
     requires { ⌜ Sized shape ⌝ }
     ensures { λ r. ⌜ r ≡ fileLength quadratic shape ⌝ }
 {

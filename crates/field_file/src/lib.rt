@@ -1,4 +1,4 @@
-// The field file: reading and writing it.
+// The calls on a field file.
 // A call has no `requires`: what document 01 doesn't admit is refused by its number, and a refused call writes nothing.
 ghost use mathlib.Core.Path.{_≡_};
 ghost use Rattle.rules.specs.Answers.{fileAnswer, reading};
@@ -10,9 +10,9 @@ use rules::Reading;
 use rules::Shape;
 use tail::Tail;
 
-pub mod layout; // layout.rt: where the sections of a file stand
+mod layout; // layout.rt: where the sections of a file stand
 mod reading; // reading.rt: the checks of a file, and its sections
-pub mod tail; // tail.rt: the last 12 bytes
+mod tail; // tail.rt: the last 12 bytes
 mod writing; // writing.rt: the checks of a writing, and the parts of the file
 
 // Reads a file into field and wind, and answers its shape.

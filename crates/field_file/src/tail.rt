@@ -13,7 +13,7 @@ use rules::Shape;
 pub(crate) const MARK: [u8; 4] = *b"PLUM";
 
 // What the tail gives: the shape, or why there is none.
-pub enum Tail {
+pub(crate) enum Tail {
     Shape(Shape),
     Refused(Refusal),
 }
@@ -39,7 +39,7 @@ fn wide(x: u8) -> usize
 }
 
 // Reads the tail. "The reader starts at the end."
-pub fn read_tail(file: &[u8]) -> Tail
+pub(crate) fn read_tail(file: &[u8]) -> Tail
     ensures { λ r. ⌜ tailAnswer r ≡ tailReply (now (file .entry)) ⌝ }
 {
     let n = file.len();

@@ -1,4 +1,4 @@
--- Numbers as bytes: stores in a row, two's complement at 16 bits, and the loops that read and write a section.
+-- Numbers as bytes: stores in a row, two's complement at 16 bits, and the loops that write a section or test it.
 use mathlib.Core.Path.{_≡_, refl, sym, ap, _∙_}
 use mathlib.Core.Bool.{true, false}
 use mathlib.Core.List.{List, [], _∷_, _++_, append-assoc}
@@ -63,6 +63,7 @@ module _ (bytes : List ℕ) (at h : ℕ) (e : h ≡ byteAt bytes at + 256 * byte
   unfolding number16
   number-high l u = rw (← e, le-ltb h 32768 l, high h l u) (toZ-ofZ {w = w16} {z = negsuc (65535 - h)} (record { sfits = omega arith }))
 
+-- z below 0: the rest to −1, and the bits by it
 pub record Below (z : ℤ) : Type 0 where
   pub k : ℕ
   pub small : k < 32768
@@ -70,6 +71,7 @@ pub record Below (z : ℤ) : Type 0 where
   pub back : toZ w16 k ≡ pos k
   pub bits : 65535 - k ≡ bits16 z
 
+-- z not below 0: it is its bits
 pub record Above (z : ℤ) : Type 0 where
   pub k : ℕ
   pub small : k < 32768
