@@ -4,7 +4,7 @@ use mathlib.Core.List.{List, [], _∷_, _++_}
 use Prim.Native.Nat.{ℕ, zero, suc, _+_, _*_, _/_, _%_}
 use lib.Dec.{ltb}
 use lib.IntN.{ℤ, pos, negsuc}
-use lib.ListN.{length}
+use lib.ListN.{length, replicate}
 use Rattle.whole.specs.Table.{blocks, at}
 use Rattle.rules.specs.declared.Shape.{Shape}
 use Rattle.rules.specs.declared.Way.{Way}
@@ -131,3 +131,8 @@ unfoldable pub printed : List ℕ → List ℕ → List ℤ → List ℕ
 unfolding told upTo readReply readField readWind
 printed file field wind = cond (ltb 65536 (length file)) (refusedLine 3)
     (told (next (readReply quadratic file field wind) (λ g. upTo g (readWind quadratic file field wind) (g .tracers) (readField quadratic file field wind))))
+
+-- "It lends buffers for exactly 128 elements and eight smokes": zeros
+unfoldable pub output : List ℕ → List ℕ
+unfolding printed
+output file = printed file (replicate (8 * (128 * 10)) 0) (replicate (2 * 128) (pos 0))

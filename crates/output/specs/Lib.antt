@@ -1,0 +1,2 @@
+-- What the printing of tracers has told.
+pub mod Telling

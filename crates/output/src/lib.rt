@@ -1,0 +1,138 @@
+// What the program prints for a file, as bytes in a lent buffer.
+ghost use mathlib.Core.Path.{_≡_};
+ghost use mathlib.Core.Bool.{true};
+ghost use Prim.Native.Nat.{_*_, _+_, _≤_};
+ghost use lib.ListN.{length, take};
+ghost use Rattle.whole.specs.Table.{overwrite};
+ghost use Rattle.rules.specs.Field.{admitted, faces};
+ghost use Rattle.rules.specs.Program.{stepped, upTo, printed, output};
+ghost use Rattle.output.specs.Telling.{tracerRoom, Tells};
+use rules::FileRead;
+use rules::Outcome;
+use rules::Reading;
+use rules::Refusal;
+use rules::Shape;
+
+// Lines in the buffer up to a place, or why there are none.
+pub enum Lines {
+    UpTo(usize),
+    Refused(Refusal),
+}
+
+// Steps one tracer, and prints its lines from place `at` on.
+fn tracer(
+    out: &mut [u8],
+    field: &mut [u32],
+    wind: &[i16],
+    report: &mut [i32],
+    work: &mut [i64],
+    shape: Shape,
+    tracer: usize,
+    at: usize,
+) -> Lines
+    requires { ⌜ admitted shape ≡ true ⌝ }
+    requires { ⌜ length (now report) ≡ 256 ⌝ }
+    requires { ⌜ length (now work) ≡ 8192 ⌝ }
+    requires { ⌜ faces shape ≤ 256 ⌝ }
+    requires { ⌜ at + tracerRoom shape ≤ length (now out) ⌝ }
+    ensures { λ r. ⌜ Tells (tracerRoom shape) at (stepped shape (now (wind .entry)) tracer (now (field .entry))) (now (field .exit)) (now (out .entry)) (now (out .exit)) r ⌝ }
+{
+    let answer = transport::step(field, wind, report, work, shape, tracer);
+    match answer {
+        Outcome::Refused(r) => Lines::Refused(r),
+        Outcome::Accepted => {
+            let found = field::total(field, shape, tracer);
+            match found {
+                Reading::Refused(r) => Lines::Refused(r),
+                Reading::Number(total) => Lines::UpTo(text::tracer_lines(
+                    out, at, shape, tracer, report, total,
+                )),
+            }
+        }
+    }
+}
+
+// The line of the grid, and every tracer's lines after its step.
+fn tracers(
+    out: &mut [u8],
+    field: &mut [u32],
+    wind: &[i16],
+    report: &mut [i32],
+    work: &mut [i64],
+    shape: Shape,
+) -> Lines
+    requires { ⌜ admitted shape ≡ true ⌝ }
+    requires { ⌜ length (now report) ≡ 256 ⌝ }
+    requires { ⌜ length (now work) ≡ 8192 ⌝ }
+    requires { ⌜ faces shape ≤ 256 ⌝ }
+    requires { ⌜ 68 + shape .tracers * tracerRoom shape ≤ length (now out) ⌝ }
+    ensures { λ r. ⌜ Tells (68 + shape .tracers * tracerRoom shape) 0 (upTo shape (now (wind .entry)) (shape .tracers) (now (field .entry))) (now (field .exit)) (now (out .entry)) (now (out .exit)) r ⌝ }
+{
+    let count = shape.tracers;
+    let mut at = text::grid_line(out, 0, shape);
+    for s in 0..count {
+        let told = tracer(out, field, wind, report, work, shape, s, at);
+        let Lines::UpTo(end) = told else {
+            return told;
+        };
+        at = end;
+    }
+    Lines::UpTo(at)
+}
+
+// The whole text at the front of the buffer, with buffers for 128 elements and eight tracers lent. A leaf: what else it leaves in
+// them is free.
+fn lines(
+    file: &[u8],
+    out: &mut [u8],
+    field: &mut [u32],
+    wind: &mut [i16],
+    report: &mut [i32],
+    work: &mut [i64],
+) -> usize
+    requires { ⌜ length (now wind) ≡ 256 ⌝ }
+    requires { ⌜ length (now report) ≡ 256 ⌝ }
+    requires { ⌜ length (now work) ≡ 8192 ⌝ }
+    requires { ⌜ length (now out) ≡ 200000 ⌝ }
+    ensures { λ r. ⌜ r ≤ 200000 ⌝ }
+    ensures { λ r. ⌜ take r (now (out .exit)) ≡ printed (now (file .entry)) (now (field .entry)) (now (wind .entry)) ⌝ }
+{
+    if 65536 < file.len() {
+        return text::refused_line(out, 0, 3);
+    }
+    let answer = field_file::read(file, field, wind);
+    match answer {
+        FileRead::Refused(r) => text::refused_line(out, 0, rules::refusal_number(r)),
+        FileRead::Found(shape) => {
+            let told = tracers(out, field, wind, report, work, shape);
+            match told {
+                Lines::Refused(r) => text::refused_line(out, 0, rules::refusal_number(r)),
+                Lines::UpTo(end) => end,
+            }
+        }
+    }
+}
+
+// What the program prints for a file, and its length. Document 01: the program lends buffers for exactly 128 elements and eight
+// smokes; no text is longer than 200,000 bytes.
+pub fn print(file: &[u8], out: &mut [u8]) -> usize
+    requires { ⌜ 200000 ≤ length (now out) ⌝ }
+    ensures { λ r. ⌜ r ≡ length (output (now (file .entry))) ⌝ }
+    ensures { λ r. ⌜ r ≤ length (now (out .exit)) ⌝ }
+    ensures { λ _. ⌜ now (out .exit) ≡ overwrite 0 (output (now (file .entry))) (now (out .entry)) ⌝ }
+{
+    let mut buffer = [0u8; 200000];
+    let mut field = [0u32; 10240];
+    let mut wind = [0i16; 256];
+    let mut report = [0i32; 256];
+    let mut work = [0i64; 8192];
+    let n = lines(
+        file,
+        &mut buffer,
+        &mut field,
+        &mut wind,
+        &mut report,
+        &mut work,
+    );
+    text::put(out, 0, &buffer[..n])
+}
