@@ -1,0 +1,3 @@
+-- Laws that the proofs of the lines cite.
+pub mod AddedLaws
+pub mod DecimalLaws
