@@ -1,0 +1,88 @@
+-- Bytes added to a buffer, one after the other.
+use mathlib.Core.Path.{_≡_, refl, sym, ap, subst, _∙_}
+use mathlib.Core.List.{List, [], _∷_, _++_, append-assoc, append-nil}
+use Prim.Native.Nat.{ℕ, zero, suc, _+_, _*_, _≤_, _<_}
+use native.Mathlib.Nat.{le-trans, suc-mul, mul-one}
+use native.Mathlib.Numerals.{add-one}
+use native.Mathlib.Omega.{arith}
+use lib.ListN.{length, getD, set, take, drop, length-append, take-append-drop}
+use lib.Seq.{drop-drop, length-take-le, take-at, drop-at, set-split, ext-getD}
+use Rattle.whole.specs.Table.{blocks, overwrite}
+use Rattle.whole.proofs.TableLaws.{blocks-more, length-blocks, getD-blocks}
+use Rattle.whole.proofs.OverwriteLaws.{length-overwrite, part-room}
+use Rattle.text.specs.Added.{Added}
+
+-- ---- two lists written, the second where the first ends
+overwrite-then : (at e : ℕ) (a b xs : List ℕ) → e ≡ at + length a → e + length b ≤ length xs → overwrite e b (overwrite at a xs) ≡ overwrite at (a ++ b) xs
+unfolding overwrite
+overwrite-then at e a b xs h room =
+    let p = take at xs in
+    let q = drop (length a) (drop at xs) in
+    let front : length (p ++ a) ≡ e = length-append p a ∙ omega (arith, length-take-le at xs (omega arith)) in
+    let all : p ++ (a ++ q) ≡ (p ++ a) ++ q = sym (append-assoc p a q) in
+    let rest : drop (length b) q ≡ drop (length (a ++ b)) (drop at xs) = drop-drop (length b) (length a) (drop at xs) ∙ ap (λ k. drop k (drop at xs)) (sym (length-append a b)) in
+    rw (all, take-at (p ++ a) q e front, drop-at (p ++ a) q e front, rest) (append-assoc p a (b ++ drop (length (a ++ b)) (drop at xs)) ∙ ap (λ y. p ++ y) (sym (append-assoc a b (drop (length (a ++ b)) (drop at xs)))))
+
+module _ {n at e : ℕ} {a old mid : List ℕ} (p : Added n at a old mid e) where
+  pub added-length : length mid ≡ length old
+  added-length = ap length (p .same) ∙ length-overwrite at a old (p .fits)
+
+  -- room that is left after them
+  pub added-room : (m : ℕ) → at + (n + m) ≤ length old → e + m ≤ length mid
+  added-room m h = omega (arith, added-length, p .ends, p .few)
+
+  pub wider : (m : ℕ) → n ≤ m → Added m at a old mid e
+  wider m h = record { same = p .same; ends = p .ends; few = le-trans (p .few) h; fits = p .fits }
+
+  pub ends-at : (f : ℕ) → f ≡ e → Added n at a old mid f
+  ends-at f h = record { same = p .same; ends = h ∙ p .ends; few = p .few; fits = p .fits }
+
+  pub then : {m f : ℕ} {b new : List ℕ} → Added m e b mid new f → Added (n + m) at (a ++ b) old new f
+  then {m} {f} {b} {new} q = record {
+    same = q .same ∙ ap (overwrite e b) (p .same) ∙ overwrite-then at e a b old (p .ends) (omega (arith, added-length, q .fits));
+    ends = omega (arith, p .ends, q .ends, length-append a b);
+    few = omega (arith, p .few, q .few, length-append a b);
+    fits = omega (arith, added-length, p .ends, q .fits, length-append a b);
+  }
+
+-- bytes that are known otherwise
+pub same-bytes : {n at e : ℕ} {a b old new : List ℕ} → a ≡ b → Added n at a old new e → Added n at b old new e
+same-bytes {n} {at} {e} {old = old} {new = new} h p = subst (λ (l : List ℕ). Added n at l old new e) h p
+
+-- ---- a loop that adds a block of at most w bytes at every turn
+overwrite-none : (at : ℕ) (xs : List ℕ) → overwrite at [] xs ≡ xs
+unfolding overwrite
+overwrite-none at xs = take-append-drop at xs
+
+module _ (w : ℕ) (f : ℕ → List ℕ) where
+  pub blocks-none : (at : ℕ) (old : List ℕ) → at ≤ length old → Added (0 * w) at (blocks 0 f) old old at
+  unfolding blocks
+  blocks-none at old h = record { same = sym (overwrite-none at old); ends = omega arith; few = omega arith; fits = omega arith }
+
+  module _ {i at e : ℕ} {old mid : List ℕ} (p : Added (i * w) at (blocks i f) old mid e) where
+    pub block-room : (n : ℕ) → i < n → at + n * w ≤ length old → e + w ≤ length mid
+    block-room n h room = added-room p w (omega (arith, part-room w h))
+
+    pub block-more : {e′ : ℕ} {new : List ℕ} → Added w e (f i) mid new e′ → Added ((i + 1) * w) at (blocks (i + 1) f) old new e′
+    block-more {e′} {new} q = let k : i * w + w ≡ (i + 1) * w = sym (rw (add-one i) (suc-mul i w)) in
+        subst (λ (m : ℕ). Added m at (blocks (i + 1) f) old new e′) k (subst (λ (l : List ℕ). Added (i * w + w) at l old new e′) (sym (blocks-more i f)) (then p q))
+
+-- ---- the bytes of a word, one by one
+pub byte-added : (at x : ℕ) (l : List ℕ) → at < length l → Added 1 at (x ∷ []) l (set l at x) (at + 1)
+unfolding overwrite
+byte-added at x l h = record { same = set-split l at x h ∙ ap (λ y. take at l ++ (x ∷ y)) (rw (add-one at) at (sym (drop-drop 1 at l))); ends = refl; few = omega arith; fits = omega arith }
+
+abbrev pub byteOf : List ℕ → ℕ → List ℕ
+byteOf l i = getD l i 0 ∷ []
+
+pub bytes-are : (l : List ℕ) → blocks (length l) (byteOf l) ≡ l
+bytes-are l = ext-getD 0 (blocks (length l) (byteOf l)) l long (λ i h. ap (λ k. getD (blocks (length l) (byteOf l)) k 0) (sym (omega arith)) ∙ getD-blocks 1 (byteOf l) (λ _. refl) (length l) i 0 0 (omega (arith, long)) (omega arith))
+  where
+    long : length (blocks (length l) (byteOf l)) ≡ length l
+    long = length-blocks 1 (byteOf l) (λ _. refl) (length l) ∙ mul-one (length l)
+
+pub word-added : {at e : ℕ} {old new : List ℕ} (l : List ℕ) → Added (length l * 1) at (blocks (length l) (byteOf l)) old new e → Added (length l) at l old new e
+word-added {at} {e} {old} {new} l p = wider (same-bytes (bytes-are l) p) (length l) (omega arith)
+
+pub word-is : {n at e : ℕ} {a b old new : List ℕ} → a ≡ b → length b ≤ n → Added (length a) at a old new e → Added n at b old new e
+word-is {n} h few p = same-bytes h (wider p n (omega (arith, ap length h)))
