@@ -3,7 +3,7 @@ ghost use mathlib.Core.Path.{_≡_};
 ghost use Prim.Native.Nat.{_+_, _≤_};
 ghost use lib.IntN.{natAbs};
 ghost use lib.ListN.{length};
-ghost use Rattle.rules.specs.Program.{decimalBy, signed};
+ghost use Rattle.rules.specs.Program.{decimalBy, signed, newline};
 ghost use Rattle.text.specs.Added.{Added};
 
 // The bytes of a word.
@@ -15,6 +15,14 @@ pub(crate) fn put(out: &mut [u8], at: usize, word: &[u8]) -> usize
         out[at + k] = word[k];
     }
     at + word.len()
+}
+
+// The newline that ends a line.
+pub(crate) fn newline(out: &mut [u8], at: usize) -> usize
+    requires { ⌜ at + 1 ≤ length (now out) ⌝ }
+    ensures { λ r. ⌜ Added 1 at newline (now (out .entry)) (now (out .exit)) r ⌝ }
+{
+    put(out, at, b"\n")
 }
 
 // A number in base ten.
