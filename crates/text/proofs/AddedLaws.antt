@@ -1,7 +1,7 @@
 -- Bytes added to a buffer, one after the other.
 use mathlib.Core.Path.{_≡_, refl, sym, ap, subst, _∙_}
-use mathlib.Core.List.{List, [], _∷_, _++_, append-assoc, append-nil}
-use Prim.Native.Nat.{ℕ, zero, suc, _+_, _*_, _≤_, _<_}
+use mathlib.Core.List.{List, [], _∷_, _++_, append-assoc}
+use Prim.Native.Nat.{ℕ, _+_, _*_, _≤_, _<_}
 use native.Mathlib.Nat.{le-trans, suc-mul, mul-one}
 use native.Mathlib.Numerals.{add-one}
 use native.Mathlib.Omega.{arith}
@@ -24,19 +24,23 @@ overwrite-then at e a b xs h room =
     rw (all, take-at (p ++ a) q e front, drop-at (p ++ a) q e front, rest) (append-assoc p a (b ++ drop (length (a ++ b)) (drop at xs)) ∙ ap (λ y. p ++ y) (sym (append-assoc a b (drop (length (a ++ b)) (drop at xs)))))
 
 module _ {n at e : ℕ} {a old mid : List ℕ} (p : Added n at a old mid e) where
+  -- the buffer keeps its length
   pub added-length : length mid ≡ length old
   added-length = ap length (p .same) ∙ length-overwrite at a old (p .fits)
 
-  -- room that is left after them
+  -- the room that is left after them
   pub added-room : (m : ℕ) → at + (n + m) ≤ length old → e + m ≤ length mid
   added-room m h = omega (arith, added-length, p .ends, p .few)
 
+  -- a larger bound
   pub wider : (m : ℕ) → n ≤ m → Added m at a old mid e
   wider m h = record { same = p .same; ends = p .ends; few = le-trans (p .few) h; fits = p .fits }
 
+  -- the end, written otherwise
   pub ends-at : (f : ℕ) → f ≡ e → Added n at a old mid f
   ends-at f h = record { same = p .same; ends = h ∙ p .ends; few = p .few; fits = p .fits }
 
+  -- more bytes, added where they end
   pub then : {m f : ℕ} {b new : List ℕ} → Added m e b mid new f → Added (n + m) at (a ++ b) old new f
   then {m} {f} {b} {new} q = record {
     same = q .same ∙ ap (overwrite e b) (p .same) ∙ overwrite-then at e a b old (p .ends) (omega (arith, added-length, q .fits));
@@ -45,7 +49,7 @@ module _ {n at e : ℕ} {a old mid : List ℕ} (p : Added n at a old mid e) wher
     fits = omega (arith, added-length, p .ends, q .fits, length-append a b);
   }
 
--- bytes that are known otherwise
+-- the same bytes, written otherwise
 pub same-bytes : {n at e : ℕ} {a b old new : List ℕ} → a ≡ b → Added n at a old new e → Added n at b old new e
 same-bytes {n} {at} {e} {old = old} {new = new} h p = subst (λ (l : List ℕ). Added n at l old new e) h p
 
@@ -65,7 +69,7 @@ module _ (w : ℕ) (f : ℕ → List ℕ) where
 
     pub block-more : {e′ : ℕ} {new : List ℕ} → Added w e (f i) mid new e′ → Added ((i + 1) * w) at (blocks (i + 1) f) old new e′
     block-more {e′} {new} q = let k : i * w + w ≡ (i + 1) * w = sym (rw (add-one i) (suc-mul i w)) in
-        subst (λ (m : ℕ). Added m at (blocks (i + 1) f) old new e′) k (subst (λ (l : List ℕ). Added (i * w + w) at l old new e′) (sym (blocks-more i f)) (then p q))
+        subst (λ (m : ℕ). Added m at (blocks (i + 1) f) old new e′) k (same-bytes (sym (blocks-more i f)) (then p q))
 
 -- ---- the bytes of a word, one by one
 pub byte-added : (at x : ℕ) (l : List ℕ) → at < length l → Added 1 at (x ∷ []) l (set l at x) (at + 1)
@@ -84,5 +88,6 @@ bytes-are l = ext-getD 0 (blocks (length l) (byteOf l)) l long (λ i h. ap (λ k
 pub word-added : {at e : ℕ} {old new : List ℕ} (l : List ℕ) → Added (length l * 1) at (blocks (length l) (byteOf l)) old new e → Added (length l) at l old new e
 word-added {at} {e} {old} {new} l p = wider (same-bytes (bytes-are l) p) (length l) (omega arith)
 
+-- a word that is b, which has at most n bytes
 pub word-is : {n at e : ℕ} {a b old new : List ℕ} → a ≡ b → length b ≤ n → Added (length a) at a old new e → Added n at b old new e
 word-is {n} h few p = same-bytes h (wider p n (omega (arith, ap length h)))

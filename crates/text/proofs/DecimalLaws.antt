@@ -1,8 +1,8 @@
 -- The fewest digits that hold a number are its digits without leading zeros.
-use mathlib.Core.Path.{_≡_, refl, sym, ap, _∙_}
-use mathlib.Core.Bool.{true, false, cond}
-use mathlib.Core.List.{List, [], _∷_, _++_}
-use Prim.Native.Nat.{ℕ, zero, suc, _+_, _*_, _-_, _/_, _%_, _^_, _≤_, _<_}
+use mathlib.Core.Path.{_≡_, refl, ap}
+use mathlib.Core.Bool.{true, false}
+use mathlib.Core.List.{[], _∷_, _++_}
+use Prim.Native.Nat.{ℕ, zero, suc, _+_, _/_, _%_, _^_, _≤_, _<_}
 use native.Mathlib.Nat.{mod-lt, mod-eq-of-lt, pow-suc, one-le-pow, pow-le-pow-right, div-lt-iff-lt-mul, le-div-iff-mul-le}
 use native.Mathlib.Decide.{decLt}
 use native.Mathlib.Numerals.{unary-clauses}
@@ -13,7 +13,7 @@ use lib.IntN.{ℤ, pos, negsuc, natAbs}
 use lib.Signed.{ltZ}
 use lib.ListN.{length, length-append}
 use Rattle.whole.proofs.Cases.{cond-ind}
-use Rattle.io.specs.Digits.{glyph, digits, Fewest}
+use Rattle.io.specs.Digits.{digits, Fewest}
 use Rattle.rules.specs.Program.{decimalBy, signed}
 
 below-ten : (more n : ℕ) → n < 10 → (48 + n) ∷ [] ≡ decimalBy more n

@@ -3,7 +3,7 @@ ghost use mathlib.Core.Path.{_≡_};
 ghost use Prim.Native.Nat.{_+_, _≤_};
 ghost use lib.IntN.{natAbs};
 ghost use lib.ListN.{length};
-ghost use Rattle.rules.specs.Program.{decimalBy, signed};
+ghost use Rattle.rules.specs.Program.{decimal, signed, newline};
 ghost use Rattle.text.specs.Added.{Added};
 
 // The bytes of a word.
@@ -17,10 +17,18 @@ pub(crate) fn put(out: &mut [u8], at: usize, word: &[u8]) -> usize
     at + word.len()
 }
 
+// The newline that ends a line.
+pub(crate) fn newline(out: &mut [u8], at: usize) -> usize
+    requires { ⌜ at + 1 ≤ length (now out) ⌝ }
+    ensures { λ r. ⌜ Added 1 at newline (now (out .entry)) (now (out .exit)) r ⌝ }
+{
+    put(out, at, b"\n")
+}
+
 // A number in base ten.
 pub(crate) fn number(out: &mut [u8], at: usize, n: u64) -> usize
     requires { ⌜ at + 20 ≤ length (now out) ⌝ }
-    ensures { λ r. ⌜ Added 20 at (decimalBy 19 n) (now (out .entry)) (now (out .exit)) r ⌝ }
+    ensures { λ r. ⌜ Added 20 at (decimal n) (now (out .entry)) (now (out .exit)) r ⌝ }
 {
     let mut digits = [0u8; 20];
     let k = io::decimal(n, &mut digits);

@@ -9,6 +9,7 @@ ghost use Rattle.rules.specs.Field.{admitted, faces};
 ghost use Rattle.rules.specs.Grid.{faceIndex};
 ghost use Rattle.rules.specs.Program.{wayWord, gridLine, faceLine, totalLine, refusedLine, faceRow, faceLines, tracerLines};
 ghost use Rattle.text.specs.Added.{Added};
+use bytes::newline;
 use bytes::number;
 use bytes::put;
 use bytes::signed;
@@ -28,7 +29,7 @@ pub fn grid_line(out: &mut [u8], at: usize, shape: Shape) -> usize
     end = number(out, end, shape.ny as u64);
     end = put(out, end, b" ");
     end = number(out, end, shape.tracers as u64);
-    put(out, end, b"\n")
+    newline(out, end)
 }
 
 // The line of a refusal: its number.
@@ -38,7 +39,7 @@ pub fn refused_line(out: &mut [u8], at: usize, n: u8) -> usize
 {
     let mut end = put(out, at, b"refused ");
     end = number(out, end, n as u64);
-    put(out, end, b"\n")
+    newline(out, end)
 }
 
 // The line of one face of element (i, j): its tracer, which way it looks, i, j and its limited flux.
@@ -62,7 +63,7 @@ fn face_line(
     end = number(out, end, j as u64);
     end = put(out, end, b" ");
     end = signed(out, end, flux);
-    put(out, end, b"\n")
+    newline(out, end)
 }
 
 // Which way a face looks, between spaces.
@@ -85,7 +86,7 @@ fn total_line(out: &mut [u8], at: usize, tracer: usize, total: u64) -> usize
     end = number(out, end, tracer as u64);
     end = put(out, end, b" ");
     end = number(out, end, total);
-    put(out, end, b"\n")
+    newline(out, end)
 }
 
 // Where the first face of row j that looks one way stands in the report.

@@ -39,33 +39,9 @@ put-requires-3 c κs = search needs
 signed-requires : tie.Need-signed-requires
 signed-requires c κs = search needs
 
-slice-aggregate-put-4 : tie.Need-slice-aggregate-put-4
-slice-aggregate-put-4 c = search needs
-
-put-requires-4 : tie.Need-put-requires-4
-put-requires-4 c κs =
-    let b8 = c .before .before in
-    let b7 = b8 .before .before .before .before in
-    let b6 = b7 .before .before .before .before .before in
-    let b5 = b6 .before .before .before .before in
-    let b4 = b5 .before .before .before .before .before in
-    let b3 = b4 .before .before .before .before in
-    let b2 = b3 .before .before .before .before in
-    let b1 = b2 .before .before .before .before in
-    let r0 = b1 .before .before .before .before .before .before .pre in
-    let r1 = added-room (b1 .before .before .put .ensures) 91 r0 in
-    let r2 = added-room (b2 .before .before .number .ensures) 71 r1 in
-    let r3 = added-room (b3 .before .before .way-word .ensures) 64 r2 in
-    let r4 = added-room (b4 .before .before .number2 .ensures) 44 r3 in
-    let r5 = added-room (b5 .before .before .put2 .ensures) 43 r4 in
-    let r6 = added-room (b6 .before .before .number3 .ensures) 23 r5 in
-    let r7 = added-room (b7 .before .before .put3 .ensures) 22 r6 in
-    added-room (b8 .before .before .signed .ensures) 1 r7
-
-returns : tie.Need-returns
-unfolding faceLine
-returns c =
-    let c8 = c .before .before .before .before .before in
+newline-requires : tie.Need-newline-requires
+newline-requires c κs =
+    let c8 = c .before in
     let c7 = c8 .before .before .before .before in
     let c6 = c7 .before .before .before .before .before in
     let c5 = c6 .before .before .before .before in
@@ -73,7 +49,28 @@ returns c =
     let c3 = c4 .before .before .before .before in
     let c2 = c3 .before .before .before .before in
     let c1 = c2 .before .before .before .before in
-    then (c1 .before .before .put .ensures) (then (c2 .before .before .number .ensures) (then (c3 .before .before .way-word .ensures) (then (c4 .before .before .number2 .ensures) (then (c5 .before .before .put2 .ensures) (then (c6 .before .before .number3 .ensures) (then (c7 .before .before .put3 .ensures) (then (same-bytes (ap signed (toZ-ofZ (c1 .before .before .before .before .before .before .fits .flux))) (c8 .before .before .signed .ensures)) (c .before .before .put4 .ensures))))))))
+    let r0 = c1 .before .before .before .before .before .before .pre in
+    let r1 = added-room (c1 .before .before .put .ensures) 91 r0 in
+    let r2 = added-room (c2 .before .before .number .ensures) 71 r1 in
+    let r3 = added-room (c3 .before .before .way-word .ensures) 64 r2 in
+    let r4 = added-room (c4 .before .before .number2 .ensures) 44 r3 in
+    let r5 = added-room (c5 .before .before .put2 .ensures) 43 r4 in
+    let r6 = added-room (c6 .before .before .number3 .ensures) 23 r5 in
+    let r7 = added-room (c7 .before .before .put3 .ensures) 22 r6 in
+    added-room (c8 .before .before .signed .ensures) 1 r7
+
+returns : tie.Need-returns
+unfolding faceLine
+returns c =
+    let c8 = c .before .before .before .before in
+    let c7 = c8 .before .before .before .before in
+    let c6 = c7 .before .before .before .before .before in
+    let c5 = c6 .before .before .before .before in
+    let c4 = c5 .before .before .before .before .before in
+    let c3 = c4 .before .before .before .before in
+    let c2 = c3 .before .before .before .before in
+    let c1 = c2 .before .before .before .before in
+    then (c1 .before .before .put .ensures) (then (c2 .before .before .number .ensures) (then (c3 .before .before .way-word .ensures) (then (c4 .before .before .number2 .ensures) (then (c5 .before .before .put2 .ensures) (then (c6 .before .before .number3 .ensures) (then (c7 .before .before .put3 .ensures) (then (same-bytes (ap signed (toZ-ofZ (c1 .before .before .before .before .before .before .fits .flux))) (c8 .before .before .signed .ensures)) (c .before .before .newline .ensures))))))))
 
 same-length : tie.Need-same-length
 same-length c = added-length (returns c)
@@ -93,7 +90,6 @@ face-line-spec =
     slice-aggregate-put-3
     put-requires-3
     signed-requires
-    slice-aggregate-put-4
-    put-requires-4
+    newline-requires
     same-length
     returns)

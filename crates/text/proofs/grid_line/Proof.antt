@@ -31,11 +31,8 @@ put-requires-3 c κs = search needs
 number-requires-3 : tie.Need-number-requires-3
 number-requires-3 c κs = search needs
 
-slice-aggregate-put-4 : tie.Need-slice-aggregate-put-4
-slice-aggregate-put-4 c = search needs
-
-put-requires-4 : tie.Need-put-requires-4
-put-requires-4 c κs = search needs
+newline-requires : tie.Need-newline-requires
+newline-requires c κs = search needs
 
 same-length : tie.Need-same-length
 same-length c = search needs
@@ -43,13 +40,13 @@ same-length c = search needs
 returns : tie.Need-returns
 unfolding gridLine
 returns c =
-    let c6 = c .before .before .before .before .before in
+    let c6 = c .before .before .before .before in
     let c5 = c6 .before .before .before .before in
     let c4 = c5 .before .before .before .before .before in
     let c3 = c4 .before .before .before .before in
     let c2 = c3 .before .before .before .before .before in
     let c1 = c2 .before .before .before .before in
-    then (c1 .before .before .put .ensures) (then (c2 .before .before .number .ensures) (then (c3 .before .before .put2 .ensures) (then (c4 .before .before .number2 .ensures) (then (c5 .before .before .put3 .ensures) (then (c6 .before .before .number3 .ensures) (c .before .before .put4 .ensures))))))
+    then (c1 .before .before .put .ensures) (then (c2 .before .before .number .ensures) (then (c3 .before .before .put2 .ensures) (then (c4 .before .before .number2 .ensures) (then (c5 .before .before .put3 .ensures) (then (c6 .before .before .number3 .ensures) (c .before .before .newline .ensures))))))
 
 pub grid-line-spec : {M : Type 1} → statement M
 grid-line-spec =
@@ -64,7 +61,6 @@ grid-line-spec =
     slice-aggregate-put-3
     put-requires-3
     number-requires-3
-    slice-aggregate-put-4
-    put-requires-4
+    newline-requires
     same-length
     returns)

@@ -13,11 +13,8 @@ put-requires c κs = search needs
 number-requires : tie.Need-number-requires
 number-requires c κs = search needs
 
-slice-aggregate-put-2 : tie.Need-slice-aggregate-put-2
-slice-aggregate-put-2 c = search needs
-
-put-requires-2 : tie.Need-put-requires-2
-put-requires-2 c κs = search needs
+newline-requires : tie.Need-newline-requires
+newline-requires c κs = search needs
 
 same-length : tie.Need-same-length
 same-length c = search needs
@@ -25,9 +22,9 @@ same-length c = search needs
 returns : tie.Need-returns
 unfolding refusedLine
 returns c =
-    let c2 = c .before .before .before .before .before in
+    let c2 = c .before .before .before .before in
     let c1 = c2 .before .before .before .before in
-    then (c1 .before .before .put .ensures) (then (c2 .before .before .number .ensures) (c .before .before .put2 .ensures))
+    then (c1 .before .before .put .ensures) (then (c2 .before .before .number .ensures) (c .before .before .newline .ensures))
 
 pub refused-line-spec : {M : Type 1} → statement M
 refused-line-spec =
@@ -36,7 +33,6 @@ refused-line-spec =
     slice-aggregate-put
     put-requires
     number-requires
-    slice-aggregate-put-2
-    put-requires-2
+    newline-requires
     same-length
     returns)

@@ -22,11 +22,8 @@ put-requires-2 c κs = search needs
 number-requires-2 : tie.Need-number-requires-2
 number-requires-2 c κs = search needs
 
-slice-aggregate-put-3 : tie.Need-slice-aggregate-put-3
-slice-aggregate-put-3 c = search needs
-
-put-requires-3 : tie.Need-put-requires-3
-put-requires-3 c κs = search needs
+newline-requires : tie.Need-newline-requires
+newline-requires c κs = search needs
 
 same-length : tie.Need-same-length
 same-length c = search needs
@@ -34,11 +31,11 @@ same-length c = search needs
 returns : tie.Need-returns
 unfolding totalLine
 returns c =
-    let c4 = c .before .before .before .before .before in
+    let c4 = c .before .before .before .before in
     let c3 = c4 .before .before .before .before in
     let c2 = c3 .before .before .before .before .before in
     let c1 = c2 .before .before .before .before in
-    then (c1 .before .before .put .ensures) (then (c2 .before .before .number .ensures) (then (c3 .before .before .put2 .ensures) (then (c4 .before .before .number2 .ensures) (c .before .before .put3 .ensures))))
+    then (c1 .before .before .put .ensures) (then (c2 .before .before .number .ensures) (then (c3 .before .before .put2 .ensures) (then (c4 .before .before .number2 .ensures) (c .before .before .newline .ensures))))
 
 pub total-line-spec : {M : Type 1} → statement M
 total-line-spec =
@@ -50,7 +47,6 @@ total-line-spec =
     slice-aggregate-put-2
     put-requires-2
     number-requires-2
-    slice-aggregate-put-3
-    put-requires-3
+    newline-requires
     same-length
     returns)
