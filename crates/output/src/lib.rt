@@ -82,7 +82,7 @@ fn tracers(
 
 // The whole text at the front of the buffer, with buffers for 128 elements and eight tracers lent. A leaf: what else it leaves in
 // them is free.
-fn lines(
+fn fill(
     file: &[u8],
     out: &mut [u8],
     field: &mut [u32],
@@ -126,7 +126,7 @@ pub fn print(file: &[u8], out: &mut [u8]) -> usize
     let mut wind = [0i16; 256];
     let mut report = [0i32; 256];
     let mut work = [0i64; 8192];
-    let n = lines(
+    let n = fill(
         file,
         &mut buffer,
         &mut field,
@@ -134,5 +134,5 @@ pub fn print(file: &[u8], out: &mut [u8]) -> usize
         &mut report,
         &mut work,
     );
-    text::put(out, 0, &buffer[..n])
+    text::bytes::put(out, 0, &buffer[..n])
 }

@@ -58,10 +58,13 @@ overwrite-none : (at : ℕ) (xs : List ℕ) → overwrite at [] xs ≡ xs
 unfolding overwrite
 overwrite-none at xs = take-append-drop at xs
 
+pub none-added : (at : ℕ) (old : List ℕ) → at ≤ length old → Added 0 at [] old old at
+none-added at old h = record { same = sym (overwrite-none at old); ends = omega arith; few = omega arith; fits = omega arith }
+
 module _ (w : ℕ) (f : ℕ → List ℕ) where
   pub blocks-none : (at : ℕ) (old : List ℕ) → at ≤ length old → Added (0 * w) at (blocks 0 f) old old at
   unfolding blocks
-  blocks-none at old h = record { same = sym (overwrite-none at old); ends = omega arith; few = omega arith; fits = omega arith }
+  blocks-none at old h = wider (none-added at old h) (0 * w) (omega arith)
 
   module _ {i at e : ℕ} {old mid : List ℕ} (p : Added (i * w) at (blocks i f) old mid e) where
     pub block-room : (n : ℕ) → i < n → at + n * w ≤ length old → e + w ≤ length mid

@@ -7,7 +7,7 @@ ghost use Rattle.rules.specs.Program.{decimal, signed, newline};
 ghost use Rattle.text.specs.Added.{Added};
 
 // The bytes of a word.
-pub(crate) fn put(out: &mut [u8], at: usize, word: &[u8]) -> usize
+pub fn put(out: &mut [u8], at: usize, word: &[u8]) -> usize
     requires { ⌜ at + length (now word) ≤ length (now out) ⌝ }
     ensures { λ r. ⌜ Added (length (now (word .entry))) at (now (word .entry)) (now (out .entry)) (now (out .exit)) r ⌝ }
 {

@@ -1,6 +1,6 @@
 // The lines that the program prints, as bytes in a buffer, each added at a place and answering where it ends.
 // Every function here is a leaf: the buffer has room for the longest line, and the shape is admitted where it is asked for.
-// `grid_line`, `refused_line` and `tracer_lines` are what the program calls.
+// `grid_line`, `refused_line`, `tracer_lines` and `bytes::put` are what the program calls.
 ghost use mathlib.Core.Path.{_≡_};
 ghost use mathlib.Core.Bool.{true};
 ghost use Prim.Native.Nat.{_+_, _*_, _≤_, _<_};
@@ -16,7 +16,7 @@ use bytes::signed;
 use rules::Shape;
 use rules::Way;
 
-mod bytes; // bytes.rt: words and numbers
+pub mod bytes; // bytes.rt: words and numbers
 
 // The line of the grid: nx, ny and how many tracers.
 pub fn grid_line(out: &mut [u8], at: usize, shape: Shape) -> usize
