@@ -1,6 +1,6 @@
 -- Laws of what is printed: one tracer's lines after its step, and the whole text.
 use mathlib.Core.Path.{_≡_, sym, ap, subst, _∙_}
-use mathlib.Core.Bool.{Bool, true}
+use mathlib.Core.Bool.{true}
 use mathlib.Core.List.{List, [], _++_, append-nil, append-assoc}
 use Prim.Native.Nat.{ℕ, _+_, _*_, _≤_, _<_}
 use native.Mathlib.Nat.{zero-add, suc-mul}
@@ -9,7 +9,7 @@ use native.Mathlib.Numerals.{add-one}
 use native.Mathlib.Omega.{arith}
 use lib.IntN.{ℤ, pos}
 use lib.ListN.{length}
-use Rattle.whole.specs.Table.{blocks, overwrite, at}
+use Rattle.whole.specs.Table.{overwrite, at}
 use Rattle.whole.proofs.TableLaws.{blocks-cong}
 use Rattle.whole.proofs.OverwriteLaws.{part-room, overwrite-inside}
 use Rattle.rules.specs.declared.Shape.{Shape}
@@ -30,7 +30,7 @@ use Rattle.text.proofs.RowLaws.{face-lt}
 use Rattle.output.specs.declared.Lines.{Lines}
 use Rattle.output.specs.declared.Lines.the-variants.{UpTo, Refused}
 use Rattle.output.specs.Telling.{tracerRoom, Told, Tells}
-use Rattle.transport.proofs.CheckLaws.{Stepping, stepping, plain-refused, report-accepted}
+use Rattle.transport.proofs.CheckLaws.{stepping, plain-refused, report-accepted}
 
 -- ---- the lines of a report that stands at the front of a longer buffer
 module _ (g : Shape) (s t : ℕ) (a : admitted g ≡ true) (rep old : List ℤ) (size : length rep ≡ faces g) (room : faces g ≤ length old) where
@@ -133,11 +133,14 @@ room-left g wind {s = s} {n = n} a p h room = added-room (then a (p .added)) (tr
 pub told-of : (n at′ : ℕ) (a : Answer Printed) (field′ old new : List ℕ) {end : ℕ} {r : Lines} → r ≡ UpTo end → Tells n at′ a field′ old new r → Told n at′ a field′ old new end
 told-of n at′ a field′ old new e t = subst (λ (x : Lines). Tells n at′ a field′ old new x) e t
 
+pub tells-refusal : (n at′ : ℕ) (a : Answer Printed) (field′ old new : List ℕ) {q : Refusal} {r : Lines} → r ≡ Refused q → Tells n at′ a field′ old new r → a ≡ refused (number q)
+tells-refusal n at′ a field′ old new e t = subst (λ (x : Lines). Tells n at′ a field′ old new x) e t
+
 -- and where a tracer was refused: all of it is
 pub tells-refused : (g : Shape) (wind : List ℤ) (first : List ℕ) (m k : ℕ) (x y z new : List ℕ) {s n start at′ : ℕ} {mid field′ old : List ℕ} {r : Lines} {q : Refusal} → Going g wind s first field′ start old mid at′ → s < n
     → r ≡ Refused q → Tells m at′ (stepped g wind s field′) x mid new r → Tells k 0 (upTo g wind n first) y z new r
 tells-refused g wind first m k x y z new {s = s} {n = n} {at′ = at′} {mid = mid} {field′ = field′} {q = q} p h e t =
-    let f = subst (λ (r : Lines). Tells m at′ (stepped g wind s field′) x mid new r) e t in
+    let f = tells-refusal m at′ (stepped g wind s field′) x mid new e t in
     subst (λ (r : Lines). Tells k 0 (upTo g wind n first) y z new r) (sym e) (stays-refused g wind first (number q) (s + 1) n (going-refused g wind first p (number q) f) (omega arith))
 
 -- the whole text

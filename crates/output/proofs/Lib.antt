@@ -1,2 +1,3 @@
 -- Laws of what is printed.
 pub mod Laws
+pub mod TextLaws

@@ -3,6 +3,7 @@ ghost use mathlib.Core.Path.{_≡_};
 ghost use mathlib.Core.Bool.{true};
 ghost use Prim.Native.Nat.{_*_, _+_, _≤_};
 ghost use lib.ListN.{length, take};
+ghost use Rattle.io.specs.Counts.{Counts};
 ghost use Rattle.whole.specs.Table.{overwrite};
 ghost use Rattle.rules.specs.Field.{admitted, faces};
 ghost use Rattle.rules.specs.Program.{stepped, upTo, printed, output};
@@ -45,7 +46,12 @@ fn tracer(
             match found {
                 Reading::Refused(r) => Lines::Refused(r),
                 Reading::Number(total) => Lines::UpTo(text::tracer_lines(
-                    out, at, shape, tracer, report, total,
+                    out,
+                    at,
+                    shape,
+                    tracer,
+                    report,
+                    total,
                 )),
             }
         }
@@ -118,7 +124,7 @@ fn fill(
 pub fn print(file: &[u8], out: &mut [u8]) -> usize
     requires { ⌜ 200000 ≤ length (now out) ⌝ }
     ensures { λ r. ⌜ r ≡ length (output (now (file .entry))) ⌝ }
-    ensures { λ r. ⌜ r ≤ length (now (out .exit)) ⌝ }
+    ensures { λ r. ⌜ Counts r (now (out .exit)) ⌝ }
     ensures { λ _. ⌜ now (out .exit) ≡ overwrite 0 (output (now (file .entry))) (now (out .entry)) ⌝ }
 {
     let mut buffer = [0u8; 200000];
