@@ -1,19 +1,18 @@
 -- Where the sections, the table and the tail stand; a file has them there exactly where it is the file of that field and wind.
 use mathlib.Core.Path.{_≡_, refl, sym, ap, subst, _∙_}
 use mathlib.Core.List.{List, [], _∷_, _++_}
-use Prim.Native.Nat.{ℕ, zero, suc, _+_, _*_, _-_, _≤_, _<_}
+use Prim.Native.Nat.{ℕ, zero, suc, _+_, _*_, _≤_, _<_}
 use native.Mathlib.Nat.{zero-mul, add-zero, mul-left-comm, mul-le-mul-right}
 use native.Mathlib.Numerals.{add-one}
 use native.Mathlib.Omega.{arith}
-use lib.Dec.{eqb}
 use lib.IntN.{ℤ, natAbs}
 use lib.ListN.{length, getD, drop, length-append, drop-of-length-le}
 use Rattle.whole.specs.Table.{blocks}
-use Rattle.whole.proofs.Cases.{cond-no, ne→neqb}
 use Rattle.rules.specs.declared.Shape.{Shape}
 use Rattle.rules.specs.Field.{Kind, faces, tracerLength, fieldLength}
 use Rattle.rules.specs.Calls.{windAt}
 use Rattle.rules.specs.FieldFile.{bytes32, bytes16, number16, sectionStart, tableStart, fileLength, mark, tail, fileOf}
+use Rattle.field_file.proofs.LayoutLaws.{tracer-start, length-is}
 use Rattle.field_file.proofs.NumberLaws.{Has, code32, code16}
 use Rattle.field_file.proofs.SectionLaws.{length-section, length-section32, has-front, has-behind, cut-off}
 
@@ -26,28 +25,16 @@ module _ (κ : Kind) (g : Shape) where
   unfolding sectionStart
   field-start = rw (zero-mul (4 * tracerLength κ g)) (add-zero (2 * faces g))
 
-  -- section i + 1, and the table as section K + 1
-  start-of : (i : ℕ) → sectionStart κ g (i + 1) ≡ 2 * faces g + i * (4 * tracerLength κ g)
-  unfolding sectionStart
-  start-of i =
-      let e : i + 1 - 1 ≡ i = omega arith in
-      cond-no (eqb (i + 1) 0) 0 (2 * faces g + (i + 1 - 1) * (4 * tracerLength κ g)) (ne→neqb (i + 1) 0 (λ z. omega arith))
-      ∙ ap (λ m. 2 * faces g + m * (4 * tracerLength κ g)) e
-
   pub table-start : tableStart κ g ≡ 2 * faces g + 4 * fieldLength κ g
   unfolding tableStart fieldLength
-  table-start = start-of (g .tracers) ∙ ap (λ m. 2 * faces g + m) (mul-left-comm (g .tracers) 4 (tracerLength κ g))
-
-  pub file-length : fileLength κ g ≡ tailStart + 12
-  unfolding fileLength
-  file-length = refl
+  table-start = tracer-start κ g (g .tracers) ∙ ap (λ m. 2 * faces g + m) (mul-left-comm (g .tracers) 4 (tracerLength κ g))
 
   -- every section starts before the table ends
   pub start-le : (i : ℕ) → i < g .tracers + 1 → sectionStart κ g i ≤ tableStart κ g
   unfolding tableStart sectionStart
   start-le zero h = omega arith
   start-le (suc i) h = subst (λ m. sectionStart κ g m ≤ sectionStart κ g (g .tracers + 1)) (add-one i)
-      (omega (arith, start-of i, start-of (g .tracers), mul-le-mul-right (4 * tracerLength κ g) (earlier i h)))
+      (omega (arith, tracer-start κ g i, tracer-start κ g (g .tracers), mul-le-mul-right (4 * tracerLength κ g) (earlier i h)))
     where
       earlier : (i : ℕ) → suc i < g .tracers + 1 → i ≤ g .tracers
       earlier i h = omega arith
@@ -124,7 +111,7 @@ module _ (κ : Kind) (g : Shape) (field : List ℕ) (wind : List ℤ) where
     length-offsets κ g,
     length-tail κ g,
     table-start κ g,
-    file-length κ g,
+    length-is κ g,
   )
 
   pub file-holds : Holds (fileOf κ g field wind)
@@ -147,7 +134,7 @@ module _ (κ : Kind) (g : Shape) (field : List ℕ) (wind : List ℤ) where
   unfolding fileOf tail
   file-is file h =
       let t = tailStart κ g in
-      let ends : t + 12 ≡ length file = sym (h .size ∙ file-length κ g) in
+      let ends : t + 12 ≡ length file = sym (h .size ∙ length-is κ g) in
       let a = cut-off file 0 winds (2 * faces g) (omega (arith, length-winds g wind)) (omega (arith, table-start κ g)) (h .has-winds) in
       let b = cut-off file (2 * faces g) numbers (tableStart κ g) (omega (arith, length-numbers κ g field, table-start κ g)) (omega arith) (h .has-numbers) in
       let c = cut-off file (tableStart κ g) offsets t (omega (arith, length-offsets κ g)) (omega arith) (h .has-offsets) in

@@ -11,8 +11,8 @@ use Rattle.whole.proofs.OverwriteLaws.{length-overwrite}
 use Rattle.rules.specs.declared.Shape.{Shape}
 use Rattle.rules.specs.Field.{quadratic, faces, fieldLength}
 use Rattle.rules.specs.FieldFile.{sectionStart, tableStart, fileLength, tail, fileOf}
-use Rattle.field_file.proofs.FileLaws.{tailStart, field-start, table-start, file-length, windBytes, fieldBytes, tableBytes, length-winds, length-numbers, length-offsets, length-tail}
-use Rattle.field_file.proofs.LayoutLaws.{wind-start}
+use Rattle.field_file.proofs.FileLaws.{tailStart, field-start, table-start, windBytes, fieldBytes, tableBytes, length-winds, length-numbers, length-offsets, length-tail}
+use Rattle.field_file.proofs.LayoutLaws.{wind-start, length-is}
 use Rattle.field_file.proofs.PartsLaws.{overwrite-next, part-written}
 use Rattle.field_file.proofs.ReadLaws.{overwritten}
 
@@ -46,36 +46,36 @@ module _ (g : Shape) (field : List ℕ) (wind : List ℤ) (file : List ℕ) (roo
   with-table = overwrite S C with-tracers
 
   pub winds-long : length with-winds ≡ length file
-  winds-long = length-overwrite 0 A file (omega (arith, length-winds g wind, ends, file-length quadratic g))
+  winds-long = length-overwrite 0 A file (omega (arith, length-winds g wind, ends, length-is quadratic g))
 
   pub tracers-long : length with-tracers ≡ length file
-  tracers-long = length-overwrite F B with-winds (omega (arith, length-numbers quadratic g field, ends, file-length quadratic g, winds-long)) ∙ winds-long
+  tracers-long = length-overwrite F B with-winds (omega (arith, length-numbers quadratic g field, ends, length-is quadratic g, winds-long)) ∙ winds-long
 
   pub table-long : length with-table ≡ length file
-  table-long = length-overwrite S C with-tracers (omega (arith, length-offsets quadratic g, file-length quadratic g, tracers-long)) ∙ tracers-long
+  table-long = length-overwrite S C with-tracers (omega (arith, length-offsets quadratic g, length-is quadratic g, tracers-long)) ∙ tracers-long
 
   -- each part comes back from where it was lent
   pub winds-made : (a b : ℕ) (y : List ℕ) → a ≡ sectionStart quadratic g 0 → b ≡ sectionStart quadratic g 1 → y ≡ overwrite 0 A (take (b - a) (drop a file))
       → take a file ++ (y ++ drop (b - a) (drop a file)) ≡ with-winds
   winds-made a b y ea eb ey =
-      let z : a ≡ 0 = ea ∙ wind-start g in
+      let z : a ≡ 0 = ea ∙ wind-start quadratic g in
       let w : b ≡ F = eb ∙ field-start quadratic g in
-      part-written a (b - a) A y file ey (omega (arith, length-winds g wind)) (omega (arith, ends, file-length quadratic g)) ∙ ap (λ n. overwrite n A file) z
+      part-written a (b - a) A y file ey (omega (arith, length-winds g wind)) (omega (arith, ends, length-is quadratic g)) ∙ ap (λ n. overwrite n A file) z
 
   pub table-made : (a b : ℕ) (y l : List ℕ) → a ≡ S → b ≡ a + 4 * (g .tracers + 1) → l ≡ with-tracers → y ≡ overwrite 0 C (take (b - a) (drop a l)) → take a l ++ (y ++ drop (b - a) (drop a l)) ≡ with-table
   table-made a b y l ea eb el ey =
       let long : length l ≡ length file = ap length el ∙ tracers-long in
-      part-written a (b - a) C y l ey (omega (arith, length-offsets quadratic g)) (omega (arith, file-length quadratic g)) ∙ (λ i. overwrite (ea i) C (el i))
+      part-written a (b - a) C y l ey (omega (arith, length-offsets quadratic g)) (omega (arith, length-is quadratic g)) ∙ (λ i. overwrite (ea i) C (el i))
 
   all-made : overwrite (tailStart quadratic g) (tail quadratic g) with-table ≡ overwrite 0 (fileOf quadratic g field wind) file
   unfolding fileOf
   all-made =
       let t = tail quadratic g in
-      let ab : with-tracers ≡ overwrite 0 (A ++ B) file = overwrite-next 0 F A B file (omega (arith, length-winds g wind)) (omega (arith, ends, file-length quadratic g)) in
+      let ab : with-tracers ≡ overwrite 0 (A ++ B) file = overwrite-next 0 F A B file (omega (arith, length-winds g wind)) (omega (arith, ends, length-is quadratic g)) in
       let lab : length (A ++ B) ≡ S = length-append A B ∙ omega (arith, length-winds g wind, length-numbers quadratic g field, ends) in
-      let abc : with-table ≡ overwrite 0 ((A ++ B) ++ C) file = ap (overwrite S C) ab ∙ overwrite-next 0 S (A ++ B) C file (omega arith) (omega (arith, file-length quadratic g)) in
+      let abc : with-table ≡ overwrite 0 ((A ++ B) ++ C) file = ap (overwrite S C) ab ∙ overwrite-next 0 S (A ++ B) C file (omega arith) (omega (arith, length-is quadratic g)) in
       let labc : length ((A ++ B) ++ C) ≡ tailStart quadratic g = length-append (A ++ B) C ∙ omega (arith, length-offsets quadratic g) in
-      ap (overwrite (tailStart quadratic g) t) abc ∙ overwrite-next 0 (tailStart quadratic g) ((A ++ B) ++ C) t file (omega arith) (omega (arith, file-length quadratic g))
+      ap (overwrite (tailStart quadratic g) t) abc ∙ overwrite-next 0 (tailStart quadratic g) ((A ++ B) ++ C) t file (omega arith) (omega (arith, length-is quadratic g))
       ∙ ap (λ l. overwrite 0 l file) (append-assoc (A ++ B) C t ∙ append-assoc A B (C ++ t))
 
   pub tail-made : (a b : ℕ) (y l : List ℕ) → a ≡ tailStart quadratic g → b ≡ fileLength quadratic g → l ≡ with-table → y ≡ tail quadratic g
@@ -83,8 +83,8 @@ module _ (g : Shape) (field : List ℕ) (wind : List ℤ) (file : List ℕ) (roo
   tail-made a b y l ea eb el ey =
       let t = tail quadratic g in
       let long : length l ≡ length file = ap length el ∙ table-long in
-      let twelve : b - a ≡ 12 = omega (arith, file-length quadratic g) in
+      let twelve : b - a ≡ 12 = omega (arith, length-is quadratic g) in
       let p = take (b - a) (drop a l) in
-      let size : length p ≡ 12 = length-take-le (b - a) (drop a l) (omega (arith, length-drop a l, file-length quadratic g)) ∙ twelve in
-      part-written a (b - a) t y l (ey ∙ sym (overwritten t p (size ∙ sym (length-tail quadratic g)))) (omega (arith, length-tail quadratic g)) (omega (arith, file-length quadratic g))
+      let size : length p ≡ 12 = length-take-le (b - a) (drop a l) (omega (arith, length-drop a l, length-is quadratic g)) ∙ twelve in
+      part-written a (b - a) t y l (ey ∙ sym (overwritten t p (size ∙ sym (length-tail quadratic g)))) (omega (arith, length-tail quadratic g)) (omega (arith, length-is quadratic g))
       ∙ (λ i. overwrite (ea i) t (el i)) ∙ all-made

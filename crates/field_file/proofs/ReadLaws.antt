@@ -102,7 +102,7 @@ module _ (g : Shape) (file : List ℕ) where
   section-numbers s start k hs hk =
       let n = tracerLength quadratic g in
       table-cong n (λ i. number32 (take k (drop start file)) (4 * i)) (λ i. fieldNumber (s * n + i))
-      (λ i h. let e : start + 4 * i ≡ sectionStart quadratic g 1 + 4 * (s * n + i) = omega (arith, tracer-start g s, tracer-start g 0) in
+      (λ i h. let e : start + 4 * i ≡ sectionStart quadratic g 1 + 4 * (s * n + i) = omega (arith, tracer-start quadratic g s, tracer-start quadratic g 0) in
       number32-part file start k (4 * i) (omega arith) ∙ ap (number32 file) e)
 
   -- read as its own part, it is the tracer's part of the field

@@ -21,7 +21,8 @@ use Rattle.rules.specs.FieldFile.{byteAt, bytes32, number32, bytes16, number16,
 use Rattle.field_file.specs.RoundTrips.{ReadIsWritten}
 use Rattle.field_file.proofs.NumberLaws.{Bytes, Has, has-four, code32, code16}
 use Rattle.field_file.proofs.SectionLaws.{numbers-written}
-use Rattle.field_file.proofs.FileLaws.{tailStart, field-start, file-length, Holds, file-is}
+use Rattle.field_file.proofs.LayoutLaws.{length-is}
+use Rattle.field_file.proofs.FileLaws.{tailStart, field-start, Holds, file-is}
 use Rattle.field_file.proofs.ReplyLaws.{Readable, read-shown, field-read, wind-read, Writable, write-accepted, file-written}
 use Rattle.field_file.proofs.SoundLaws.{winds-same, fields-same}
 
@@ -56,7 +57,7 @@ module _ (κ : Kind) (g : Shape) (file field : List ℕ) (wind : List ℤ) (r : 
       }
 
   size : length file ≡ tailStart κ g + 12
-  size = placed .long ∙ file-length κ g
+  size = placed .long ∙ length-is κ g
 
   -- ---- what stands in the buffers
   abbrev new-field : List ℕ

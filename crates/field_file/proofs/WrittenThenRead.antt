@@ -21,14 +21,15 @@ use Rattle.rules.specs.FieldFile.{byteAt, bytes32, number32, bytes16, number16,
 use Rattle.field_file.specs.RoundTrips.{WrittenIsRead}
 use Rattle.field_file.proofs.NumberLaws.{code32, code16}
 use Rattle.field_file.proofs.SectionLaws.{numbers-read}
-use Rattle.field_file.proofs.FileLaws.{tailStart, shapeBytes, field-start, file-length, start-le, Holds, length-file, file-holds}
+use Rattle.field_file.proofs.LayoutLaws.{length-is}
+use Rattle.field_file.proofs.FileLaws.{tailStart, shapeBytes, field-start, start-le, Holds, length-file, file-holds}
 use Rattle.field_file.proofs.ReplyLaws.{and-yes, Readable, read-accepted, field-read, wind-read, Writable, write-shown, file-written}
 use Rattle.field_file.proofs.SoundLaws.{all-of, front-table, winds-same, wind-fits, fields-same, number-fits}
 
 -- what reading finds in a file that holds the parts of a field and a wind
 module _ (κ : Kind) (g : Shape) (field : List ℕ) (wind : List ℤ) (file : List ℕ) (h : Holds κ g field wind file) where
   size : length file ≡ tailStart κ g + 12
-  size = h .size ∙ file-length κ g
+  size = h .size ∙ length-is κ g
 
   tail-byte : (n k : ℕ) → length file - n ≡ tailStart κ g + k → k < 4 → byteAt file (length file - n) ≡ getD (shapeBytes g) k 0
   tail-byte n k e l = ap (byteAt file) e ∙ h .has-shape .at k l
@@ -52,7 +53,7 @@ module _ (κ : Kind) (g : Shape) (field : List ℕ) (wind : List ℤ) (file : Li
       (λ i l. eqb-of (numbers-read 4 bytes32 number32 (λ n. n < 4294967296) code32 file (tableStart κ g) (sectionStart κ g) (g .tracers + 1) starts-fit (h .has-offsets) i l))))
     where
       table-fits : tableStart κ g < 4294967296
-      table-fits = omega (arith, file-length κ g)
+      table-fits = omega (arith, length-is κ g)
 
       starts-fit : (i : ℕ) → i < g .tracers + 1 → sectionStart κ g i < 4294967296
       starts-fit i l = omega (arith, start-le κ g i l, table-fits)

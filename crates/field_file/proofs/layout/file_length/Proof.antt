@@ -19,7 +19,7 @@ mul-result c = search needs
 
 -- the file's length, by the table's start
 sum-is : (c : tie.After-struct-known) → c .before .table-start .result + 4 * (c .before .before .args .shape .tracers + 1) + 12 ≡ fileLength quadratic (c .before .before .args .shape)
-sum-is c = omega (arith, c .before .table-start .ensures, length-is (c .before .before .args .shape))
+sum-is c = omega (arith, c .before .table-start .ensures, length-is quadratic (c .before .before .args .shape))
 
 add-result-2 : tie.Need-add-result-2
 add-result-2 c = record { fits = omega (arith, sum-is c, length-le (c .before .before .args .shape) (c .before .before .pre)) }

@@ -2,13 +2,14 @@ use mathlib.Core.Path.{sym}
 use native.Mathlib.Omega.{arith}
 use Prim.Native.Nat.{_-_, _*_, _≤_}
 use borrow.Author.Needs.{needs}
+use Rattle.rules.specs.Field.{quadratic}
 use Rattle.field.proofs.PlaceLaws.{elements-le, tracer-le}
 use Rattle.field_file.proofs.LayoutLaws.{wind-start, start-of, tracers-le}
 use Rattle.field_file.proofs.layout.section_start.Statement.{statement}
 use Rattle.field_file.proofs.layout.section_start.Tie as tie
 
 returns : tie.Need-returns
-returns c = rw (c .if1 .taken) (sym (wind-start (c .before .args .shape)))
+returns c = rw (c .if1 .taken) (sym (wind-start quadratic (c .before .args .shape)))
 
 faces-requires : tie.Need-faces-requires
 faces-requires c κs = search needs
@@ -38,7 +39,7 @@ add-result c = let b = c .before .before .before in record { fits = omega (arith
 returns-2 : tie.Need-returns-2
 returns-2 c =
     let b = c .before .before .before in
-    rw (c .before .faces .ensures, c .tracer-length .ensures) (sym (start-of (b .args .shape) (b .args .i) (omega (arith, c .before .before .if1 .left))))
+    rw (c .before .faces .ensures, c .tracer-length .ensures) (sym (start-of quadratic (b .args .shape) (b .args .i) (omega (arith, c .before .before .if1 .left))))
 
 pub section-start-spec : {M : Type 1} → statement M
 section-start-spec =

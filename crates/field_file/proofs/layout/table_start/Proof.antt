@@ -1,5 +1,6 @@
 use mathlib.Core.Path.{sym, _∙_}
 use borrow.Author.Needs.{needs}
+use Rattle.rules.specs.Field.{quadratic}
 use Rattle.field_file.proofs.LayoutLaws.{table-is}
 use Rattle.field_file.proofs.layout.table_start.Statement.{statement}
 use Rattle.field_file.proofs.layout.table_start.Tie as tie
@@ -11,7 +12,7 @@ section-start-requires : tie.Need-section-start-requires
 section-start-requires c κs = search needs
 
 returns : tie.Need-returns
-returns c = c .section-start .ensures ∙ sym (table-is (c .before .before .args .shape))
+returns c = c .section-start .ensures ∙ sym (table-is quadratic (c .before .before .args .shape))
 
 pub table-start-spec : {M : Type 1} → statement M
 table-start-spec = tie.close (tie.spec add-section-start section-start-requires returns)

@@ -36,10 +36,10 @@ table-start-requires : tie.Need-table-start-requires Inv-loop μ-loop
 table-start-requires c κs = search needs
 
 sub-number32 : tie.Need-sub-number32 Inv-loop μ-loop
-sub-number32 c = let e = c .before in omega (arith, long e, length-is (e .before .before .before .args .shape))
+sub-number32 c = let e = c .before in omega (arith, long e, length-is quadratic (e .before .before .before .args .shape))
 
 number32-requires : tie.Need-number32-requires Inv-loop μ-loop
-number32-requires c κs = let e = c .before in omega (arith, long e, length-is (e .before .before .before .args .shape))
+number32-requires c κs = let e = c .before in omega (arith, long e, length-is quadratic (e .before .before .before .args .shape))
 
 cast-if2 : tie.Need-cast-if2 Inv-loop μ-loop
 cast-if2 c = search needs
@@ -66,7 +66,7 @@ room c =
     let t = c .before .before .before .before .before in
     let e = t .before in
     let s = e .before .before .before in
-    (omega (arith, long e, length-is (s .args .shape), t .table-start .ensures), omega (arith, long e, length-is (s .args .shape), length-le (s .args .shape) (s .pre), t .table-start .ensures))
+    (omega (arith, long e, length-is quadratic (s .args .shape), t .table-start .ensures), omega (arith, long e, length-is quadratic (s .args .shape), length-le (s .args .shape) (s .pre), t .table-start .ensures))
 
 mul-number32 : tie.Need-mul-number32 Inv-loop μ-loop
 mul-number32 c = search needs

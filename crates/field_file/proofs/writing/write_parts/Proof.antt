@@ -10,8 +10,8 @@ use Rattle.whole.proofs.OverwriteLaws.{part-size}
 use Rattle.rules.specs.Field.{quadratic, faces, fieldLength}
 use Rattle.rules.specs.Calls.{windAt}
 use Rattle.rules.specs.FieldFile.{bytes16}
-use Rattle.field_file.proofs.FileLaws.{field-start, table-start, file-length, fieldBytes}
-use Rattle.field_file.proofs.LayoutLaws.{wind-start, length-le}
+use Rattle.field_file.proofs.FileLaws.{field-start, table-start, fieldBytes}
+use Rattle.field_file.proofs.LayoutLaws.{wind-start, length-le, length-is}
 use Rattle.field_file.proofs.FileWritten.{with-winds, with-tracers, with-table, winds-long, tracers-long, table-long, winds-made, table-made, tail-made}
 use Rattle.field_file.proofs.writing.write_parts.Statement.{statement}
 use Rattle.field_file.proofs.writing.write_parts.Tie as tie
@@ -32,7 +32,7 @@ mul-tail : tie.Need-mul-tail
 mul-tail c = search needs
 
 add-tail-2 : tie.Need-add-tail-2
-add-tail-2 c = let b = c .before .before .before .before .before .before in record { fits = omega (arith, c .before .table-start .ensures, file-length quadratic (b .args .shape), length-le (b .args .shape) (b .pre .0)) }
+add-tail-2 c = let b = c .before .before .before .before .before .before in record { fits = omega (arith, c .before .table-start .ensures, length-is quadratic (b .args .shape), length-le (b .args .shape) (b .pre .0)) }
 
 file-length-requires : tie.Need-file-length-requires
 file-length-requires c κs = c .before .before .before .before .before .before .pre .0
@@ -50,10 +50,10 @@ places c =
     let b = c .before .before .before .before .before .before .before in
     let g = b .args .shape in
     record {
-      first = c .before .before .before .before .section-start .ensures ∙ wind-start g;
+      first = c .before .before .before .before .section-start .ensures ∙ wind-start quadratic g;
       second = c .before .before .before .section-start2 .ensures ∙ field-start quadratic g;
       third = c .before .before .table-start .ensures ∙ table-start quadratic g;
-      last = omega (arith, c .file-length .ensures, file-length quadratic g, c .before .before .table-start .ensures);
+      last = omega (arith, c .file-length .ensures, length-is quadratic g, c .before .before .table-start .ensures);
       room = omega (arith, c .file-length .ensures, b .pre .1 .0);
     }
 
@@ -110,7 +110,7 @@ write-tracers-requires c κs =
     let b = c .before .before .before .before .before .before .before .before .before .before .before .before .before in
     let g = b .args .shape in
     let long = ap length (after-winds (c .before .before .before)) ∙ winds-long (c .before .before .before .before .before .before .before .before .before .before .before .before .before .args .shape) (c .before .before .before .before .before .before .before .before .before .before .before .before .before .args .field .now) (c .before .before .before .before .before .before .before .before .before .before .before .before .before .args .wind .now) (c .before .before .before .before .before .before .before .before .before .before .before .before .before .args .file .now) (c .before .before .before .before .before .before .before .before .before .before .before .before .before .pre .1 .0) in
-    (b .pre .0, (omega (arith, long, b .pre .1 .0, table-start quadratic g, file-length quadratic g), b .pre .1 .1 .0))
+    (b .pre .0, (omega (arith, long, b .pre .1 .0, table-start quadratic g, length-is quadratic g), b .pre .1 .1 .0))
 
 sub-write-table : tie.Need-sub-write-table
 sub-write-table c = search needs

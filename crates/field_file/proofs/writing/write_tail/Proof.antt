@@ -5,6 +5,7 @@ use lib.ListN.{length, set, length-set}
 use Rattle.whole.proofs.OverwriteLaws.{length-overwrite}
 use Rattle.rules.specs.FieldFile.{bytes32}
 use borrow.Author.Needs.{needs}
+use Rattle.rules.specs.Field.{quadratic}
 use Rattle.field_file.proofs.LayoutLaws.{length-is, length-le}
 use Rattle.field_file.proofs.NumberLaws.{code32}
 use Rattle.field_file.proofs.WritingLaws.{tail-written}
@@ -36,7 +37,7 @@ table-start-requires : tie.Need-table-start-requires
 table-start-requires c κs = search needs
 
 cast-put32 : tie.Need-cast-put32
-cast-put32 c = let b = c .before .before .before .before .before .before in record { fits = omega (arith, c .table-start .ensures, length-le (b .args .shape) (b .pre .0), length-is (b .args .shape)) }
+cast-put32 c = let b = c .before .before .before .before .before .before in record { fits = omega (arith, c .table-start .ensures, length-le (b .args .shape) (b .pre .0), length-is quadratic (b .args .shape)) }
 
 put32-requires : tie.Need-put32-requires
 put32-requires c κs = simp length-set (omega (arith, c .before .before .before .before .before .before .pre .1))
