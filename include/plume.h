@@ -3,7 +3,8 @@
  * Shape. nx and ny are 1 to 64 elements, smokes is 1 to 8. Element (i, j) has i counted east from 0 and j north from 0.
  *
  * Buffers. Each is a pointer and then the count of its numbers. Pointers are aligned for their type and not null, also where the
- * count is 0; buffers of one call do not overlap. A buffer may be longer than needed: what is beyond stays as it was.
+ * count is 0; buffers of one call do not overlap. A buffer may be longer than needed, but for the file of plume_read: what is
+ * beyond stays as it was.
  *   field    10 * nx * ny * smokes. Smoke by smoke, then j, then i: nine values (b outer, a inner, from south-west to
  *            north-east) and a remainder, 0 to 35. An element holds the sum of its values times their weights
  *            1 4 1, 4 16 4, 1 4 1, plus the remainder; a smoke's total is the sum of that, at most 100,000,000.
@@ -20,7 +21,7 @@
  *    3 the file's offsets or length differ from what its shape gives
  *    4 a buffer is shorter than needed
  *    5 a wind number outside -1024 to 1024
- *    6 a remainder above 35 or a total above 100,000,000
+ *    6 a remainder above 35 or a total above 100,000,000: of the named smoke; in plume_read and plume_write of any
  *    7 no such smoke
  *    8 no such element or face
  *    9 the total would pass 100,000,000

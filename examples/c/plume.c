@@ -60,7 +60,7 @@ static void step(int number)
 }
 
 /* A field that is written to a file is the field that is read from it. */
-static void there_and_back(void)
+static void written_and_read(void)
 {
     int64_t length = plume_write(file, FILE_LENGTH, field, FIELD, wind, FACES, NX, NY, SMOKES);
     expect("write", length, FILE_LENGTH);
@@ -79,7 +79,7 @@ int main(void)
     expect("emission", plume_emission(field, FIELD, NX, NY, SMOKES, 0, 1, 2, EMITTED), 0);
     for (int number = 1; number <= 4; number++)
         step(number);
-    there_and_back();
+    written_and_read();
     expect("withdrawal of too much", plume_withdrawal(field, FIELD, NX, NY, SMOKES, 0, 1, 2, EMITTED + 1), 10);
     expect("withdrawal", plume_withdrawal(field, FIELD, NX, NY, SMOKES, 0, 1, 2, (uint64_t)mass(1, 2)), 0);
     expect("mass of an emptied element", mass(1, 2), 0);

@@ -9,7 +9,7 @@ ghost use Rattle.rules.specs.Calls.{emitted, withdrawn};
 ghost use Rattle.field.specs.Places.{weighed};
 
 // The weights of an element's ten numbers: nine nodes, and the remainder.
-pub(crate) const WEIGHTS: [u64; 10] = [1, 4, 1, 4, 16, 4, 1, 4, 1, 1];
+pub const WEIGHTS: [u64; 10] = [1, 4, 1, 4, 16, 4, 1, 4, 1, 1];
 
 // The weighted sum of the first n of an element's numbers: nine values, and the remainder.
 pub(crate) fn weigh(numbers: &[u32], n: usize) -> u64

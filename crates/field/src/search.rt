@@ -32,7 +32,7 @@ pub enum Total {
 }
 
 // The largest total of a tracer.
-pub(crate) const LIMIT: u64 = 100_000_000;
+pub const LIMIT: u64 = 100_000_000;
 
 // A leaf: the total of a tracer's part, unless a remainder is above 35 or the total above the limit.
 pub fn tracer_total(part: &[u32], shape: Shape) -> Total

@@ -29,7 +29,7 @@ use Rattle.text.proofs.AddedLaws.{none-added, wider, then, added-room}
 use Rattle.text.proofs.RowLaws.{face-lt}
 use Rattle.output.specs.declared.Lines.{Lines}
 use Rattle.output.specs.declared.Lines.the-variants.{UpTo, Refused}
-use Rattle.output.specs.Telling.{tracerRoom, Told, Tells}
+use Rattle.output.specs.AddedLines.{tracerRoom, LinesAdded, AddedOrRefused}
 use Rattle.transport.proofs.CheckLaws.{stepping, plain-refused, report-accepted}
 
 -- ---- the lines of a report that stands at the front of a longer buffer
@@ -77,8 +77,8 @@ module _ (g : Shape) (wind : List ℤ) (s : ℕ) (field : List ℕ) (rl wl : ℕ
     pub total-refused : (n : ℕ) (after : List ℕ) → after ≡ c .field → totalReading quadratic g s after ≡ refused n → stepped g wind s field ≡ refused n
     total-refused n after f q = answers ∙ ap (λ x. rest x rep) (sym f) ∙ ap (λ a. next a (λ total. accepted (record { text = tracerLines g s rep total; field = after }))) q
 
-    pub lines-told : (t : ℕ) (after : List ℕ) → after ≡ c .field → totalReading quadratic g s after ≡ accepted t → stepped g wind s field ≡ accepted (record { text = tracerLines g s rep t; field = after })
-    lines-told t after f q = answers ∙ ap (λ x. rest x rep) (sym f) ∙ ap (λ a. next a (λ total. accepted (record { text = tracerLines g s rep total; field = after }))) q
+    pub lines-accepted : (t : ℕ) (after : List ℕ) → after ≡ c .field → totalReading quadratic g s after ≡ accepted t → stepped g wind s field ≡ accepted (record { text = tracerLines g s rep t; field = after })
+    lines-accepted t after f q = answers ∙ ap (λ x. rest x rep) (sym f) ∙ ap (λ a. next a (λ total. accepted (record { text = tracerLines g s rep total; field = after }))) q
 
     -- the lines that are printed from the report buffer
     pub lines-are : (t : ℕ) (a : admitted g ≡ true) (old new : List ℤ) → new ≡ reportAfter (c .reply) old → faces g ≤ length old → tracerLines g s new t ≡ tracerLines g s rep t
@@ -89,35 +89,35 @@ module _ (g : Shape) (wind : List ℤ) (s : ℕ) (field : List ℕ) (rl wl : ℕ
         ∙ lines-kept g s t a rep old (report-length quadratic g (p .fine .nx-above) (p .fine .ny-above) (windAt wind) (part quadratic g s field) (stages quadratic g (windAt wind) (part quadratic g s field))) room
 
 -- ---- all tracers: after the line of the grid, the first s of them stand in the buffer from place `start` on
-pub record Going (g : Shape) (wind : List ℤ) (s : ℕ) (first now′ : List ℕ) (start : ℕ) (old new : List ℕ) (end : ℕ) : Type 0 where
+pub record TracersAdded (g : Shape) (wind : List ℤ) (s : ℕ) (first now′ : List ℕ) (start : ℕ) (old new : List ℕ) (end : ℕ) : Type 0 where
   pub text : List ℕ
   pub is : upTo g wind s first ≡ accepted (record { text = gridLine g ++ text; field = now′ })
   pub added : Added (s * tracerRoom g) start text old new end
 
 module _ (g : Shape) (wind : List ℤ) (first : List ℕ) where
-  pub going-none : (start : ℕ) (old : List ℕ) → start ≤ length old → Going g wind 0 first first start old old start
+  pub tracers-none : (start : ℕ) (old : List ℕ) → start ≤ length old → TracersAdded g wind 0 first first start old old start
   unfolding upTo
-  going-none start old h = record { text = []; is = ap (λ l. accepted (record { text = l; field = first })) (sym (append-nil (gridLine g))); added = wider (none-added start old h) (0 * tracerRoom g) (omega arith) }
+  tracers-none start old h = record { text = []; is = ap (λ l. accepted (record { text = l; field = first })) (sym (append-nil (gridLine g))); added = wider (none-added start old h) (0 * tracerRoom g) (omega arith) }
 
   -- one tracer more
   more : (s : ℕ) → upTo g wind (s + 1) first ≡ next (upTo g wind s first) (λ p. next (stepped g wind s (p .field)) (λ q. accepted (record { text = p .text ++ q .text; field = q .field })))
   unfolding upTo
   more s = rw (add-one s)
 
-  module _ {s start at′ : ℕ} {mid field′ old : List ℕ} (p : Going g wind s first field′ start old mid at′) where
+  module _ {s start at′ : ℕ} {mid field′ old : List ℕ} (p : TracersAdded g wind s first field′ start old mid at′) where
     joined : upTo g wind (s + 1) first ≡ next (stepped g wind s field′) (λ q. accepted (record { text = (gridLine g ++ p .text) ++ q .text; field = q .field }))
     joined = more s ∙ ap (λ a. next a (λ p. next (stepped g wind s (p .field)) (λ q. accepted (record { text = p .text ++ q .text; field = q .field })))) (p .is)
 
-    pub going-next : {new after : List ℕ} {end : ℕ} → Told (tracerRoom g) at′ (stepped g wind s field′) after mid new end → Going g wind (s + 1) first after start old new end
-    going-next {new} {after} {end} t = record {
+    pub tracers-next : {new after : List ℕ} {end : ℕ} → LinesAdded (tracerRoom g) at′ (stepped g wind s field′) after mid new end → TracersAdded g wind (s + 1) first after start old new end
+    tracers-next {new} {after} {end} t = record {
       text = p .text ++ t .text;
       is = joined ∙ ap (λ a. next a (λ q. accepted (record { text = (gridLine g ++ p .text) ++ q .text; field = q .field }))) (t .is)
           ∙ ap (λ l. accepted (record { text = l; field = after })) (append-assoc (gridLine g) (p .text) (t .text));
       added = let k : (s + 1) * tracerRoom g ≡ s * tracerRoom g + tracerRoom g = rw (add-one s) (suc-mul s (tracerRoom g)) in wider (then (p .added) (t .added)) ((s + 1) * tracerRoom g) (omega (arith, k));
     }
 
-    pub going-refused : (n : ℕ) → stepped g wind s field′ ≡ refused n → upTo g wind (s + 1) first ≡ refused n
-    going-refused n e = joined ∙ ap (λ a. next a (λ q. accepted (record { text = (gridLine g ++ p .text) ++ q .text; field = q .field }))) e
+    pub tracers-refused : (n : ℕ) → stepped g wind s field′ ≡ refused n → upTo g wind (s + 1) first ≡ refused n
+    tracers-refused n e = joined ∙ ap (λ a. next a (λ q. accepted (record { text = (gridLine g ++ p .text) ++ q .text; field = q .field }))) e
 
   -- a refusal stays
   pub stays-refused : (n s m : ℕ) → upTo g wind s first ≡ refused n → s ≤ m → upTo g wind m first ≡ refused n
@@ -125,25 +125,25 @@ module _ (g : Shape) (wind : List ℤ) (first : List ℕ) where
 
 -- ---- in the code's terms
 -- room for the next tracer
-pub room-left : (g : Shape) (wind : List ℤ) {first now′ old mid new : List ℕ} {s n start end : ℕ} → Added 68 0 (gridLine g) old mid start → Going g wind s first now′ start mid new end
+pub room-left : (g : Shape) (wind : List ℤ) {first now′ old mid new : List ℕ} {s n start end : ℕ} → Added 68 0 (gridLine g) old mid start → TracersAdded g wind s first now′ start mid new end
     → s < n → 68 + n * tracerRoom g ≤ length old → end + tracerRoom g ≤ length new
 room-left g wind {s = s} {n = n} a p h room = added-room (then a (p .added)) (tracerRoom g) (omega (arith, part-room (tracerRoom g) {s = s} {n = n} h))
 
--- what was told where lines were
-pub told-of : (n at′ : ℕ) (a : Answer Printed) (field′ old new : List ℕ) {end : ℕ} {r : Lines} → r ≡ UpTo end → Tells n at′ a field′ old new r → Told n at′ a field′ old new end
-told-of n at′ a field′ old new e t = subst (λ (x : Lines). Tells n at′ a field′ old new x) e t
+-- where lines were added
+pub added-of : (n at′ : ℕ) (a : Answer Printed) (field′ old new : List ℕ) {end : ℕ} {r : Lines} → r ≡ UpTo end → AddedOrRefused n at′ a field′ old new r → LinesAdded n at′ a field′ old new end
+added-of n at′ a field′ old new e t = subst (λ (x : Lines). AddedOrRefused n at′ a field′ old new x) e t
 
-pub tells-refusal : (n at′ : ℕ) (a : Answer Printed) (field′ old new : List ℕ) {q : Refusal} {r : Lines} → r ≡ Refused q → Tells n at′ a field′ old new r → a ≡ refused (number q)
-tells-refusal n at′ a field′ old new e t = subst (λ (x : Lines). Tells n at′ a field′ old new x) e t
+pub refusal-of : (n at′ : ℕ) (a : Answer Printed) (field′ old new : List ℕ) {q : Refusal} {r : Lines} → r ≡ Refused q → AddedOrRefused n at′ a field′ old new r → a ≡ refused (number q)
+refusal-of n at′ a field′ old new e t = subst (λ (x : Lines). AddedOrRefused n at′ a field′ old new x) e t
 
--- and where a tracer was refused: all of it is
-pub tells-refused : (g : Shape) (wind : List ℤ) (first : List ℕ) (m k : ℕ) (x y z new : List ℕ) {s n start at′ : ℕ} {mid field′ old : List ℕ} {r : Lines} {q : Refusal} → Going g wind s first field′ start old mid at′ → s < n
-    → r ≡ Refused q → Tells m at′ (stepped g wind s field′) x mid new r → Tells k 0 (upTo g wind n first) y z new r
-tells-refused g wind first m k x y z new {s = s} {n = n} {at′ = at′} {mid = mid} {field′ = field′} {q = q} p h e t =
-    let f = tells-refusal m at′ (stepped g wind s field′) x mid new e t in
-    subst (λ (r : Lines). Tells k 0 (upTo g wind n first) y z new r) (sym e) (stays-refused g wind first (number q) (s + 1) n (going-refused g wind first p (number q) f) (omega arith))
+-- where a tracer is refused, the run is
+pub all-refused : (g : Shape) (wind : List ℤ) (first : List ℕ) (m k : ℕ) (x y z new : List ℕ) {s n start at′ : ℕ} {mid field′ old : List ℕ} {r : Lines} {q : Refusal} → TracersAdded g wind s first field′ start old mid at′ → s < n
+    → r ≡ Refused q → AddedOrRefused m at′ (stepped g wind s field′) x mid new r → AddedOrRefused k 0 (upTo g wind n first) y z new r
+all-refused g wind first m k x y z new {s = s} {n = n} {at′ = at′} {mid = mid} {field′ = field′} {q = q} p h e t =
+    let f = refusal-of m at′ (stepped g wind s field′) x mid new e t in
+    subst (λ (r : Lines). AddedOrRefused k 0 (upTo g wind n first) y z new r) (sym e) (stays-refused g wind first (number q) (s + 1) n (tracers-refused g wind first p (number q) f) (omega arith))
 
 -- the whole text
-pub all-told : (g : Shape) (wind : List ℤ) (n : ℕ) (first now′ : List ℕ) (start : ℕ) (old mid new : List ℕ) (end : ℕ) → Added 68 0 (gridLine g) old mid start → Going g wind n first now′ start mid new end
-    → Told (68 + n * tracerRoom g) 0 (upTo g wind n first) now′ old new end
-all-told g wind n first now′ start old mid new end a p = record { text = gridLine g ++ p .text; is = p .is; added = then a (p .added) }
+pub all-added : (g : Shape) (wind : List ℤ) (n : ℕ) (first now′ : List ℕ) (start : ℕ) (old mid new : List ℕ) (end : ℕ) → Added 68 0 (gridLine g) old mid start → TracersAdded g wind n first now′ start mid new end
+    → LinesAdded (68 + n * tracerRoom g) 0 (upTo g wind n first) now′ old new end
+all-added g wind n first now′ start old mid new end a p = record { text = gridLine g ++ p .text; is = p .is; added = then a (p .added) }

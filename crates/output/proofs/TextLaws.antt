@@ -15,11 +15,11 @@ use Rattle.rules.specs.declared.Shape.{Shape}
 use Rattle.rules.specs.Answers.{Answer, accepted, refused}
 use Rattle.rules.specs.Field.{quadratic, admitted, elements, faces}
 use Rattle.rules.specs.FieldFile.{readReply, readField, readWind}
-use Rattle.rules.specs.Program.{refusedLine, Printed, next, upTo, told, printed}
+use Rattle.rules.specs.Program.{refusedLine, Printed, next, upTo, textOf, printed}
 use Rattle.rules.proofs.FieldLaws.{ranges}
 use Rattle.text.specs.Added.{Added}
 use Rattle.text.proofs.AddedLaws.{added-length}
-use Rattle.output.specs.Telling.{tracerRoom, Told}
+use Rattle.output.specs.AddedLines.{tracerRoom, LinesAdded}
 
 -- bytes that were added at the front are the buffer's front
 module _ {n end : ℕ} {bytes old new : List ℕ} (a : Added n 0 bytes old new end) where
@@ -43,26 +43,26 @@ module _ (file field : List ℕ) (wind : List ℤ) where
     abbrev goes-on : Shape → Answer Printed
     goes-on g = upTo g (readWind quadratic file field wind) (g .tracers) (readField quadratic file field wind)
 
-    short-printed : told (next (readReply quadratic file field wind) goes-on) ≡ printed file field wind
+    short-printed : textOf (next (readReply quadratic file field wind) goes-on) ≡ printed file field wind
     unfolding printed
     short-printed = rw (le-ltb 65536 (length file) short)
 
     pub refused-printed : (n : ℕ) → readReply quadratic file field wind ≡ refused n → refusedLine n ≡ printed file field wind
-    unfolding told
-    refused-printed n e = sym (ap (λ a. told (next a goes-on)) e) ∙ short-printed
+    unfolding textOf
+    refused-printed n e = sym (ap (λ a. textOf (next a goes-on)) e) ∙ short-printed
 
-    pub told-printed : (g : Shape) (field′ : List ℕ) (wind′ : List ℤ) → readReply quadratic file field wind ≡ accepted g → field′ ≡ readField quadratic file field wind → wind′ ≡ readWind quadratic file field wind
-        → told (upTo g wind′ (g .tracers) field′) ≡ printed file field wind
-    told-printed g field′ wind′ e f w = (λ i. told (upTo g (w i) (g .tracers) (f i))) ∙ sym (ap (λ a. told (next a goes-on)) e) ∙ short-printed
+    pub text-printed : (g : Shape) (field′ : List ℕ) (wind′ : List ℤ) → readReply quadratic file field wind ≡ accepted g → field′ ≡ readField quadratic file field wind → wind′ ≡ readWind quadratic file field wind
+        → textOf (upTo g wind′ (g .tracers) field′) ≡ printed file field wind
+    text-printed g field′ wind′ e f w = (λ i. textOf (upTo g (w i) (g .tracers) (f i))) ∙ sym (ap (λ a. textOf (next a goes-on)) e) ∙ short-printed
 
--- what was told, in the end
-pub text-is : {n end : ℕ} {a : Answer Printed} {field′ old new : List ℕ} (t : Told n 0 a field′ old new end) → t .text ≡ told a
-unfolding told
-text-is t = sym (ap told (t .is))
+-- the text that lines and a refusal come to
+pub text-is : {n end : ℕ} {a : Answer Printed} {field′ old new : List ℕ} (t : LinesAdded n 0 a field′ old new end) → t .text ≡ textOf a
+unfolding textOf
+text-is t = sym (ap textOf (t .is))
 
-pub refusal-told : (a : Answer Printed) (n : ℕ) → a ≡ refused n → refusedLine n ≡ told a
-unfolding told
-refusal-told a n e = sym (ap told e)
+pub refusal-text : (a : Answer Printed) (n : ℕ) → a ≡ refused n → refusedLine n ≡ textOf a
+unfolding textOf
+refusal-text a n e = sym (ap textOf e)
 
 -- 200,000 bytes are enough for 128 elements and eight tracers
 pub text-fits : (g : Shape) → T (admitted g) → faces g ≤ 256 → 68 + g .tracers * tracerRoom g ≤ 200000

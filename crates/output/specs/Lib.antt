@@ -1,2 +1,2 @@
--- What the printing of tracers has told.
-pub mod Telling
+-- What the functions that print tracers leave.
+pub mod AddedLines

@@ -7,7 +7,7 @@ ghost use Rattle.io.specs.Counts.{Counts};
 ghost use Rattle.whole.specs.Table.{overwrite};
 ghost use Rattle.rules.specs.Field.{admitted, faces};
 ghost use Rattle.rules.specs.Program.{stepped, upTo, printed, output};
-ghost use Rattle.output.specs.Telling.{tracerRoom, Tells};
+ghost use Rattle.output.specs.AddedLines.{tracerRoom, AddedOrRefused};
 use rules::FileRead;
 use rules::Outcome;
 use rules::Reading;
@@ -15,7 +15,7 @@ use rules::Refusal;
 use rules::Shape;
 
 // Lines in the buffer up to a place, or why there are none.
-pub enum Lines {
+pub(crate) enum Lines {
     UpTo(usize),
     Refused(Refusal),
 }
@@ -36,7 +36,7 @@ fn tracer(
     requires { ⌜ length (now work) ≡ 8192 ⌝ }
     requires { ⌜ faces shape ≤ 256 ⌝ }
     requires { ⌜ at + tracerRoom shape ≤ length (now out) ⌝ }
-    ensures { λ r. ⌜ Tells (tracerRoom shape) at (stepped shape (now (wind .entry)) tracer (now (field .entry))) (now (field .exit)) (now (out .entry)) (now (out .exit)) r ⌝ }
+    ensures { λ r. ⌜ AddedOrRefused (tracerRoom shape) at (stepped shape (now (wind .entry)) tracer (now (field .entry))) (now (field .exit)) (now (out .entry)) (now (out .exit)) r ⌝ }
 {
     let answer = transport::step(field, wind, report, work, shape, tracer);
     match answer {
@@ -72,22 +72,21 @@ fn tracers(
     requires { ⌜ length (now work) ≡ 8192 ⌝ }
     requires { ⌜ faces shape ≤ 256 ⌝ }
     requires { ⌜ 68 + shape .tracers * tracerRoom shape ≤ length (now out) ⌝ }
-    ensures { λ r. ⌜ Tells (68 + shape .tracers * tracerRoom shape) 0 (upTo shape (now (wind .entry)) (shape .tracers) (now (field .entry))) (now (field .exit)) (now (out .entry)) (now (out .exit)) r ⌝ }
+    ensures { λ r. ⌜ AddedOrRefused (68 + shape .tracers * tracerRoom shape) 0 (upTo shape (now (wind .entry)) (shape .tracers) (now (field .entry))) (now (field .exit)) (now (out .entry)) (now (out .exit)) r ⌝ }
 {
     let count = shape.tracers;
     let mut at = text::grid_line(out, 0, shape);
     for s in 0..count {
-        let told = tracer(out, field, wind, report, work, shape, s, at);
-        let Lines::UpTo(end) = told else {
-            return told;
+        let added = tracer(out, field, wind, report, work, shape, s, at);
+        let Lines::UpTo(end) = added else {
+            return added;
         };
         at = end;
     }
     Lines::UpTo(at)
 }
 
-// The whole text at the front of the buffer, with buffers for 128 elements and eight tracers lent. A leaf: what else it leaves in
-// them is free.
+// The whole text at the front of the buffer. All buffers but the file are `print`'s own: only the text in them is used after this.
 fn fill(
     file: &[u8],
     out: &mut [u8],
@@ -110,8 +109,8 @@ fn fill(
     match answer {
         FileRead::Refused(r) => text::refused_line(out, 0, rules::refusal_number(r)),
         FileRead::Found(shape) => {
-            let told = tracers(out, field, wind, report, work, shape);
-            match told {
+            let added = tracers(out, field, wind, report, work, shape);
+            match added {
                 Lines::Refused(r) => text::refused_line(out, 0, rules::refusal_number(r)),
                 Lines::UpTo(end) => end,
             }
@@ -120,7 +119,7 @@ fn fill(
 }
 
 // What the program prints for a file, and its length. Document 01: the program lends buffers for exactly 128 elements and eight
-// smokes; no text is longer than 200,000 bytes.
+// smokes. A leaf: the output has room for 200,000 bytes, which no text exceeds. `Counts` is there for `&out[..n]` at the caller.
 pub fn print(file: &[u8], out: &mut [u8]) -> usize
     requires { ⌜ 200000 ≤ length (now out) ⌝ }
     ensures { λ r. ⌜ r ≡ length (output (now (file .entry))) ⌝ }

@@ -89,17 +89,17 @@ module _ (κ : Kind) where
   offsetsRight g file = eqb (length file) (fileLength κ g)
       && (eqb (number32 file (length file - 8)) (tableStart κ g) && all (g .tracers + 1) (λ i. eqb (number32 file (tableStart κ g + 4 * i)) (sectionStart κ g i)))
 
-  -- the field that a file of shape g holds
+  -- the field that a file of shape g holds, section after section
   unfoldable pub fileField : Shape → List ℕ → List ℕ
   unfolding table number32 fieldLength sectionStart
   fileField g file = table (fieldLength κ g) (λ i. number32 file (sectionStart κ g 1 + 4 * i))
 
-  -- 6 "in file reading and writing": "of any smoke"
+  -- 6: "of any smoke in file reading and writing"
   unfoldable pub fieldSound : Shape → List ℕ → Bool
   unfolding all sound part
   fieldSound g field = all (g .tracers) (λ s. sound κ g (part κ g s field))
 
-  -- "File reading answers the shape"
+  -- "File reading answers the shape". "Where the tail gives no shape it refuses before looking at a section": by 1 or 2
   unfoldable pub readReply : List ℕ → List ℕ → List ℤ → Answer Shape
   unfolding answer tailShape tailRight admitted offsetsRight fieldLength windSound fieldSound fileWind fileField
   readReply file field wind =
@@ -107,6 +107,7 @@ module _ (κ : Kind) where
       answer (check 1 (tailRight file) ∷ check 2 (admitted g) ∷ check 3 (offsetsRight g file) ∷ check 4 (leb (fieldLength κ g) (length field) && leb (faces g) (length wind))
       ∷ check 5 (windSound g (fileWind g file)) ∷ check 6 (fieldSound g (fileField g file)) ∷ []) g
 
+  -- field and wind after the call: the file's numbers at the front, surplus left alone
   unfoldable pub readField : List ℕ → List ℕ → List ℤ → List ℕ
   unfolding readReply after overwrite fileField
   readField file field wind = after (readReply file field wind) (overwrite 0 (fileField (tailShape file) file) field) field
@@ -122,6 +123,7 @@ module _ (κ : Kind) where
       answer (check 2 (admitted g) ∷ check 4 (leb (fieldLength κ g) (length field) && (leb (faces g) (length wind) && leb (fileLength κ g) (length file)))
       ∷ check 5 (windSound g wind) ∷ check 6 (fieldSound g field) ∷ []) (fileLength κ g)
 
+  -- the file after the call: its bytes at the front, surplus left alone
   unfoldable pub writeFile : Shape → List ℕ → List ℤ → List ℕ → List ℕ
   unfolding writeReply after overwrite fileOf
   writeFile g field wind file = after (writeReply g field wind file) (overwrite 0 (fileOf κ g field wind) file) file

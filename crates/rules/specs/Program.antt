@@ -1,5 +1,5 @@
 -- Document 01, "Field file": what the program prints, as bytes.
-use mathlib.Core.Bool.{Bool, cond}
+use mathlib.Core.Bool.{cond}
 use mathlib.Core.List.{List, [], _∷_, _++_}
 use Prim.Native.Nat.{ℕ, zero, suc, _+_, _*_, _/_, _%_}
 use lib.Dec.{ltb}
@@ -99,7 +99,7 @@ pub record Printed : Type 0 where
   pub text : List ℕ
   pub field : List ℕ
 
--- "It lends buffers for exactly 128 elements and eight smokes": report and work
+-- report and work for 128 elements
 abbrev pub reportLent : ℕ
 reportLent = 2 * 128
 
@@ -120,19 +120,20 @@ module _ (g : Shape) (wind : List ℤ) where
   upTo zero field = accepted (record { text = gridLine g; field = field })
   upTo (suc s) field = next (upTo s field) (λ p. next (stepped s (p .field)) (λ q. accepted (record { text = p .text ++ q .text; field = q .field })))
 
--- what is printed in the end
-unfoldable pub told : Answer Printed → List ℕ
+-- what is printed in the end: the lines, or the refusal alone
+unfoldable pub textOf : Answer Printed → List ℕ
 unfolding refusedLine
-told (accepted p) = p .text
-told (refused n) = refusedLine n
+textOf (accepted p) = p .text
+textOf (refused n) = refusedLine n
 
 -- "Over 65,536 bytes it prints "refused 3", before any other check.": field and wind are the lent buffers
 unfoldable pub printed : List ℕ → List ℕ → List ℤ → List ℕ
-unfolding told upTo readReply readField readWind
+unfolding textOf upTo readReply readField readWind
 printed file field wind = cond (ltb 65536 (length file)) (refusedLine 3)
-    (told (next (readReply quadratic file field wind) (λ g. upTo g (readWind quadratic file field wind) (g .tracers) (readField quadratic file field wind))))
+    (textOf (next (readReply quadratic file field wind) (λ g. upTo g (readWind quadratic file field wind) (g .tracers) (readField quadratic file field wind))))
 
--- "It lends buffers for exactly 128 elements and eight smokes": zeros
+-- "It lends buffers for exactly 128 elements and eight smokes, so a larger grid gets 4": ten numbers an element and two winds, all
+-- zero. Check 4 of file reading sees a larger grid by its winds
 unfoldable pub output : List ℕ → List ℕ
 unfolding printed
 output file = printed file (replicate (8 * (128 * 10)) 0) (replicate (2 * 128) (pos 0))

@@ -5,13 +5,9 @@ ghost use lib.ListN.{length};
 ghost use Rattle.rules.specs.Field.{quadratic, tracerLength, sound};
 ghost use Rattle.field.specs.Places.{Sized};
 ghost use Rattle.sections.specs.Numbers.{numbersOf};
+use field::element::WEIGHTS;
+use field::search::LIMIT;
 use rules::Shape;
-
-// The weights of an element's ten numbers: nine nodes, and the remainder.
-const WEIGHTS: [u64; 10] = [1, 4, 1, 4, 16, 4, 1, 4, 1, 1];
-
-// The largest total of a tracer.
-const LIMIT: u64 = 100_000_000;
 
 // A leaf: whether no remainder of a tracer's section is above 35 and the total is not above the limit. "The search by rows,
 // elements and numbers ends at the first break."

@@ -37,7 +37,7 @@ impl Comparison {
         }
         let refused = call.refusal(answer) != 0;
         if refused && expected != Expected::Nothing {
-            return Err(format!("there, and refused on the way back: {answer}"));
+            return Err(format!("a file just written or read was refused: {answer}"));
         }
         if let (Operation::Step(_), false) = (call.operation, refused) {
             // "An accepted step leaves work free: any content"; what was not lent is not free.
@@ -69,7 +69,7 @@ impl Comparison {
             }
         };
         match broken {
-            Some(what) => Err(format!("there and back gives {what}")),
+            Some(what) => Err(format!("the round trip changed {what}")),
             None => Ok(()),
         }
     }

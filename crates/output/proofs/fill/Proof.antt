@@ -5,8 +5,8 @@ use Rattle.rules.specs.Answers.{fileAnswer}
 use Rattle.rules.specs.Field.{quadratic, admitted, faces}
 use Rattle.rules.specs.Program.{refusedLine}
 use Rattle.field_file.proofs.ReplyLaws.{read-shown}
-use Rattle.output.proofs.Laws.{told-of, tells-refusal}
-use Rattle.output.proofs.TextLaws.{front-added, end-le, long-printed, refused-printed, told-printed, text-is, refusal-told, text-fits, true-of}
+use Rattle.output.proofs.Laws.{added-of, refusal-of}
+use Rattle.output.proofs.TextLaws.{front-added, end-le, long-printed, refused-printed, text-printed, text-is, refusal-text, text-fits, true-of}
 use borrow.Author.Needs.{needs}
 use Rattle.output.proofs.fill.Statement.{statement}
 use Rattle.output.proofs.fill.Tie as tie
@@ -48,8 +48,8 @@ tracers-requires c κs =
     let few : faces g ≤ 256 = omega (arith, s .wind-room, b .pre .0) in
     (true-of (admitted g) (s .ranges), (b .pre .1 .0, (b .pre .1 .1 .0, (few, omega (arith, text-fits g (s .ranges) few, b .pre .1 .1 .1)))))
 
-enum-known-told : tie.Need-enum-known-told
-enum-known-told c = search needs
+enum-known-added : tie.Need-enum-known-added
+enum-known-added c = search needs
 
 refusal-number-requires-2 : tie.Need-refusal-number-requires-2
 refusal-number-requires-2 c κs = search needs
@@ -57,8 +57,8 @@ refusal-number-requires-2 c κs = search needs
 refused-line-requires-3 : tie.Need-refused-line-requires-3
 refused-line-requires-3 c κs = omega (arith, c .before .before .before .before .before .before .before .before .before .before .out3 .given, c .before .before .before .before .before .before .before .before .before .before .before .before .before .before .before .before .before .before .before .before .before .before .before .before .before .before .before .before .before .before .pre .1 .1 .1)
 
-enum-known-told-2 : tie.Need-enum-known-told-2
-enum-known-told-2 c = search needs
+enum-known-added-2 : tie.Need-enum-known-added-2
+enum-known-added-2 c = search needs
 
 same-length-2 : tie.Need-same-length-2
 same-length-2 c = search needs
@@ -102,8 +102,8 @@ returns-3 c =
     let b = i .before .before .before .before in
     let a = c .before .before .refused-line3 .ensures in (
       omega (arith, end-le a, c .before .before .before .before .before .before .before .before .before .before .before .before .before .out3 .given, b .pre .1 .1 .1),
-      front-added a ∙ ap refusedLine (c .before .before .before .refusal-number2 .ensures) ∙ refusal-told _ _ (tells-refusal _ _ _ _ _ _ (c .before .before .before .before .before .before .told .given .1) (t .tracers .ensures))
-          ∙ told-printed (b .args .file .now) (b .args .field .now) (b .args .wind .now) (i .if1 .left) (c .before .before .before .before .before .before .before .before .before .before .before .before .before .before .before .before .before .before .before .before .before .answer2 .given .0 .0) _ _ (sym (r .read .ensures .0) ∙ ap fileAnswer (c .before .before .before .before .before .before .before .before .before .before .before .before .before .before .before .before .before .before .before .before .before .answer2 .given .1)) (r .read .ensures .1 .0) (r .read .ensures .1 .1),
+      front-added a ∙ ap refusedLine (c .before .before .before .refusal-number2 .ensures) ∙ refusal-text _ _ (refusal-of _ _ _ _ _ _ (c .before .before .before .before .before .before .added .given .1) (t .tracers .ensures))
+          ∙ text-printed (b .args .file .now) (b .args .field .now) (b .args .wind .now) (i .if1 .left) (c .before .before .before .before .before .before .before .before .before .before .before .before .before .before .before .before .before .before .before .before .before .answer2 .given .0 .0) _ _ (sym (r .read .ensures .0) ∙ ap fileAnswer (c .before .before .before .before .before .before .before .before .before .before .before .before .before .before .before .before .before .before .before .before .before .answer2 .given .1)) (r .read .ensures .1 .0) (r .read .ensures .1 .1),
     )
 
 same-length-10 : tie.Need-same-length-10
@@ -127,10 +127,10 @@ returns-4 c =
     let r = t .before .before .before .before .before .before .before .before .before .before .before .before in
     let i = r .before .before .before in
     let b = i .before .before .before .before in
-    let d = told-of _ _ _ _ _ _ (c .before .told2 .given .1) (t .tracers .ensures) in (
+    let d = added-of _ _ _ _ _ _ (c .before .added2 .given .1) (t .tracers .ensures) in (
       omega (arith, end-le (d .added), b .pre .1 .1 .1),
       front-added (d .added) ∙ text-is d
-          ∙ told-printed (b .args .file .now) (b .args .field .now) (b .args .wind .now) (i .if1 .left) (c .before .before .before .before .before .before .before .before .before .before .before .before .before .before .before .before .answer2 .given .0 .0) _ _ (sym (r .read .ensures .0) ∙ ap fileAnswer (c .before .before .before .before .before .before .before .before .before .before .before .before .before .before .before .before .answer2 .given .1)) (r .read .ensures .1 .0) (r .read .ensures .1 .1),
+          ∙ text-printed (b .args .file .now) (b .args .field .now) (b .args .wind .now) (i .if1 .left) (c .before .before .before .before .before .before .before .before .before .before .before .before .before .before .before .before .answer2 .given .0 .0) _ _ (sym (r .read .ensures .0) ∙ ap fileAnswer (c .before .before .before .before .before .before .before .before .before .before .before .before .before .before .before .before .answer2 .given .1)) (r .read .ensures .1 .0) (r .read .ensures .1 .1),
     )
 
 pub fill-spec : {M : Type 1} → statement M
@@ -146,10 +146,10 @@ fill-spec =
     refused-line-requires-2
     enum-known-answer-2
     tracers-requires
-    enum-known-told
+    enum-known-added
     refusal-number-requires-2
     refused-line-requires-3
-    enum-known-told-2
+    enum-known-added-2
     same-length-2
     same-length-3
     same-length-4

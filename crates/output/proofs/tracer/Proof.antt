@@ -2,7 +2,7 @@ use mathlib.Core.Path.{sym, ap, _∙_}
 use native.Mathlib.Omega.{arith}
 use Rattle.rules.specs.Answers.{outcome, reading}
 use Rattle.text.proofs.AddedLaws.{same-bytes}
-use Rattle.output.proofs.Laws.{step-refused, total-refused, lines-told, lines-are}
+use Rattle.output.proofs.Laws.{step-refused, total-refused, lines-accepted, lines-are}
 use borrow.Author.Needs.{needs}
 use Rattle.output.proofs.tracer.Statement.{statement}
 use Rattle.output.proofs.tracer.Tie as tie
@@ -82,7 +82,7 @@ returns-3 c =
     let q = sym (c .before .before .before .before .before .before .before .before .total .ensures) ∙ ap reading (c .before .before .before .before .before .before .found2 .given .1) in
     record {
       text = _;
-      is = lines-told (b .args .shape) (b .args .wind .now) (b .args .tracer) (b .args .field .now) _ _ (b .pre .1 .0) (b .pre .1 .1 .0) e n _ (t .step .ensures .1 .0) q;
+      is = lines-accepted (b .args .shape) (b .args .wind .now) (b .args .tracer) (b .args .field .now) _ _ (b .pre .1 .0) (b .pre .1 .1 .0) e n _ (t .step .ensures .1 .0) q;
       added = same-bytes (lines-are (b .args .shape) (b .args .wind .now) (b .args .tracer) (b .args .field .now) _ _ (b .pre .1 .0) (b .pre .1 .1 .0) e n (b .pre .0) (b .args .report .now) _ (t .step .ensures .1 .1 .0) (omega (arith, b .pre .1 .0, b .pre .1 .1 .1 .0))) (c .before .before .tracer-lines .ensures);
     }
 

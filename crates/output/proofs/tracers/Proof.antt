@@ -4,12 +4,12 @@ use borrow.Author.Needs.{needs}
 use native.Mathlib.Omega.{arith}
 use lib.ListN.{length}
 use Rattle.text.proofs.AddedLaws.{added-room}
-use Rattle.output.proofs.Laws.{Going, going-none, going-next, room-left, tells-refused, told-of, all-told}
+use Rattle.output.proofs.Laws.{TracersAdded, tracers-none, tracers-next, room-left, all-refused, added-of, all-added}
 use Rattle.output.proofs.tracers.Statement.{statement}
 use Rattle.output.proofs.tracers.Tie as tie
 
 abbrev Inv-loop : tie.InvT-loop
-Inv-loop out₀ field₀ wind report₀ work₀ shape count at₀ s₀ out field report work at s = (s ≤ count) × Going shape wind s field₀ field at₀ out₀ out at × (length report ≡ 256) × (length work ≡ 8192) × (length out ≡ length out₀) × (length field ≡ length field₀)
+Inv-loop out₀ field₀ wind report₀ work₀ shape count at₀ s₀ out field report work at s = (s ≤ count) × TracersAdded shape wind s field₀ field at₀ out₀ out at × (length report ≡ 256) × (length work ≡ 8192) × (length out ≡ length out₀) × (length field ≡ length field₀)
 
 abbrev μ-loop : tie.MeasureT-loop
 μ-loop out₀ field₀ wind report₀ work₀ shape count at₀ s₀ out field report work at s = count - s
@@ -21,7 +21,7 @@ loop-holds : tie.Need-loop-holds Inv-loop μ-loop
 loop-holds c =
     let g = c .before .before in
     let b = g .before .before .before .before in
-    (omega arith, going-none (b .args .shape) (b .args .wind .now) (b .args .field .now) (g .grid-line .result) _ (omega (arith, added-room (g .grid-line .ensures) 0 (omega (arith, b .pre .1 .1 .1 .1)))), b .pre .1 .0, b .pre .1 .1 .0, refl, refl)
+    (omega arith, tracers-none (b .args .shape) (b .args .wind .now) (b .args .field .now) (g .grid-line .result) _ (omega (arith, added-room (g .grid-line .ensures) 0 (omega (arith, b .pre .1 .1 .1 .1)))), b .pre .1 .0, b .pre .1 .1 .0, refl, refl)
 
 tracer-requires : tie.Need-tracer-requires Inv-loop μ-loop
 tracer-requires c κs =
@@ -31,8 +31,8 @@ tracer-requires c κs =
     let b = g .before .before .before .before in
     (b .pre .0, (l .inv .2, (l .inv .3, (b .pre .1 .1 .1 .0, room-left (b .args .shape) (b .args .wind .now) (g .grid-line .ensures) (l .inv .1) (i .loop-test .taken) (b .pre .1 .1 .1 .1)))))
 
-enum-known-told : tie.Need-enum-known-told Inv-loop μ-loop
-enum-known-told c = search needs
+enum-known-added : tie.Need-enum-known-added Inv-loop μ-loop
+enum-known-added c = search needs
 
 enum-told : tie.Need-enum-told Inv-loop μ-loop
 enum-told c = search needs
@@ -55,7 +55,7 @@ returns c =
     let i = t .before .before .before .before .before in
     let l = i .before .loop in
     let b = i .before .before .before .before .before .before .before .before in
-    tells-refused (b .args .shape) (b .args .wind .now) (b .args .field .now) _ _ _ _ _ _ (l .inv .1) (i .loop-test .taken) (c .enum-told .given .1) (t .tracer .ensures)
+    all-refused (b .args .shape) (b .args .wind .now) (b .args .field .now) _ _ _ _ _ _ (l .inv .1) (i .loop-test .taken) (c .enum-told .given .1) (t .tracer .ensures)
 
 add-s : tie.Need-add-s Inv-loop μ-loop
 add-s c = search needs
@@ -69,7 +69,7 @@ loop-again c =
     let i = t .before .before .before .before .before in
     let l = i .before .loop in
     let b = i .before .before .before .before .before .before .before .before in
-    (omega arith, going-next (b .args .shape) (b .args .wind .now) (b .args .field .now) (l .inv .1) (told-of _ _ _ _ _ _ (c .before .told .given .1) (t .tracer .ensures)), c .before .before .before .before .report .given ∙ l .inv .2, c .before .before .before .work .given ∙ l .inv .3, c .before .before .before .before .before .before .before .before .out2 .given ∙ l .inv .4, c .before .before .before .before .before .before .field .given ∙ l .inv .5)
+    (omega arith, tracers-next (b .args .shape) (b .args .wind .now) (b .args .field .now) (l .inv .1) (added-of _ _ _ _ _ _ (c .before .added .given .1) (t .tracer .ensures)), c .before .before .before .before .report .given ∙ l .inv .2, c .before .before .before .work .given ∙ l .inv .3, c .before .before .before .before .before .before .before .before .out2 .given ∙ l .inv .4, c .before .before .before .before .before .before .field .given ∙ l .inv .5)
 
 same-length-5 : tie.Need-same-length-5 Inv-loop μ-loop
 same-length-5 c = c .before .loop .inv .4 ∙ c .before .before .before .out .given
@@ -89,7 +89,7 @@ returns-2 c =
     let g = c .before .before .before .before in
     let b = g .before .before .before .before in
     let e : l .s ≡ b .args .shape .tracers = omega arith in
-    rw e at (all-told (b .args .shape) (b .args .wind .now) (l .s) (b .args .field .now) (l .field) (g .grid-line .result) (b .args .out .now) _ (l .out) (l .at) (g .grid-line .ensures) (l .inv .1))
+    rw e at (all-added (b .args .shape) (b .args .wind .now) (l .s) (b .args .field .now) (l .field) (g .grid-line .result) (b .args .out .now) _ (l .out) (l .at) (g .grid-line .ensures) (l .inv .1))
 
 pub tracers-spec : {M : Type 1} → statement M
 tracers-spec =
@@ -100,7 +100,7 @@ tracers-spec =
     grid-line-requires
     loop-holds
     tracer-requires
-    enum-known-told
+    enum-known-added
     enum-told
     same-length
     same-length-2

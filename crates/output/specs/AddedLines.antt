@@ -1,4 +1,4 @@
--- What the printing of tracers has told: lines in the buffer, or a refusal.
+-- What the functions that print tracers leave: lines in the buffer, or a refusal.
 use mathlib.Core.Path.{_≡_}
 use mathlib.Core.List.{List}
 use Prim.Native.Nat.{ℕ, _+_, _*_}
@@ -14,12 +14,12 @@ abbrev pub tracerRoom : Shape → ℕ
 tracerRoom g = 2 * (g .ny * (g .nx * 96)) + 48
 
 -- a text of at most n bytes stands in the buffer from place `at` on, and `field` is what the steps have left
-pub record Told (n at : ℕ) (a : Answer Printed) (field old new : List ℕ) (end : ℕ) : Type 0 where
+pub record LinesAdded (n at : ℕ) (a : Answer Printed) (field old new : List ℕ) (end : ℕ) : Type 0 where
   pub text : List ℕ
   pub is : a ≡ accepted (record { text = text; field = field })
   pub added : Added n at text old new end
 
 -- the same, or the refusal's number
-abbrev pub Tells : ℕ → ℕ → Answer Printed → List ℕ → List ℕ → List ℕ → Lines → Type 0
-Tells n at a field old new (UpTo end) = Told n at a field old new end
-Tells n at a field old new (Refused r) = a ≡ refused (number r)
+abbrev pub AddedOrRefused : ℕ → ℕ → Answer Printed → List ℕ → List ℕ → List ℕ → Lines → Type 0
+AddedOrRefused n at a field old new (UpTo end) = LinesAdded n at a field old new end
+AddedOrRefused n at a field old new (Refused r) = a ≡ refused (number r)
