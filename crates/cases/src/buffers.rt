@@ -1,5 +1,5 @@
 // Buffers to start from. Of the shape 2 by 1 with two tracers a field has 40 numbers, a wind 4 and a load 18.
-// The buffers are longer, and one number short of the next shape: 60, 6 and 27.
+// The buffers have 59, 5 and 26: longer, and one number short of three tracers (60) or three elements (6 and 27).
 use super::calls;
 use rules::Shape;
 

@@ -1,12 +1,12 @@
 // Runs the calls on a field at and beside the edges of document 01, and prints a line for each: the call, what is at the edge,
 // its answer and what it left. A refused call's buffers are compared with copies from before it.
-mod buffers;
-mod calls;
-mod contents;
-mod edges;
-mod orders;
-mod refusals;
-mod show;
+mod buffers; // buffers.rt: buffers to start from
+mod calls; // calls.rt: one line for a call
+mod contents; // contents.rt: what accepted calls leave
+mod edges; // edges.rt: the last number that passes, and the first that doesn't
+mod orders; // orders.rt: calls with two faults
+mod refusals; // refusals.rt: each refusal of each call
+mod show; // show.rt: printing and comparing
 
 fn main() {
     edges::east_winds();

@@ -20,8 +20,8 @@ pub record NotNegative (n : ℕ) (z : ℤ) : Type 0 where
   pub small : Within n z
 
 -- no element of a part holds more than the limit
-pub record Light (g : Shape) (p : List ℕ) : Type 0 where
-  pub light : (e : ℕ) → e < elements g → mass quadratic p e ≤ 100000000
+pub record WithinLimit (g : Shape) (p : List ℕ) : Type 0 where
+  pub within-limit : (e : ℕ) → e < elements g → mass quadratic p e ≤ 100000000
 
 -- where each kind of number begins in work
 abbrev pub fluxesAt : Shape → ℕ

@@ -1,6 +1,6 @@
--- The calls' checks: what the reading of a tracer's total, which every call on a sound tracer begins with, says of the call.
+-- The calls' checks: what the reading of a tracer's total, which mass, emission and withdrawal begin with, says of the call.
 use mathlib.Core.Path.{_≡_, refl, sym, ap, _∙_}
-use mathlib.Core.Bool.{Bool, true, false, _&&_, cond}
+use mathlib.Core.Bool.{Bool, true, false, _&&_}
 use mathlib.Core.List.{List, [], _∷_, _++_}
 use Prim.Native.Nat.{ℕ, _+_, _≤_, _<_}
 use native.Mathlib.Omega.{arith}
@@ -10,49 +10,19 @@ use lib.IntN.{ℤ}
 use lib.ListN.{length}
 use Rattle.whole.proofs.Cases.{both-yes}
 use Rattle.rules.specs.declared.Shape.{Shape}
-use Rattle.rules.specs.Answers.{Answer, accepted, refused, Check, check, answer, after, plain}
+use Rattle.rules.specs.Answers.{Answer, accepted, refused, Check, check, answer, plain}
 use Rattle.rules.specs.Field.{quadratic, admitted, element, onGrid, fieldLength, part, withPart, mass, total, limit, sound}
 use Rattle.rules.specs.Calls.{Operation, emission, withdrawal, Lent, lentEnough, soundIfThere, checks, done, call, massReading, totalReading}
-use Rattle.field.specs.Places.{Inside}
-use Rattle.field.specs.Search.{searched}
-use Rattle.field.specs.declared.search.Total.the-variants.{Sum, Unsound}
-use Rattle.rules.proofs.AnswerLaws.{answer-ind}
+use Rattle.places.specs.Places.{Inside}
+use Rattle.searches.specs.Search.{searched}
+use Rattle.rules.proofs.AnswerLaws.{answer-ind, prefix-refused, prefix-accepted, after-refused, after-accepted}
 use Rattle.rules.proofs.FieldLaws.{Ranges, ranges, total-small, sound-there}
 use Rattle.rules.proofs.PartLaws.{mass-le-total}
-use Rattle.field.proofs.PlaceLaws.{sized, element-lt}
-
--- ---- answers of a list of checks that another list goes on
-pub prefix-refused : {A B : Type 0} (cs ds : List Check) (x : A) (y : B) (n : ℕ) → answer cs x ≡ refused n → answer (cs ++ ds) y ≡ refused n
-unfolding answer
-prefix-refused [] ds x y n e = let z : _≡_ {A = ℕ} 0 1 = cc in absurd (omega arith)
-prefix-refused (c ∷ cs) ds x y n e = go (c .passes) (prefix-refused cs ds x y n) e
-  where
-    go : (b : Bool) → (answer cs x ≡ refused n → answer (cs ++ ds) y ≡ refused n) → cond b (answer cs x) (refused (c .number)) ≡ refused n
-        → cond b (answer (cs ++ ds) y) (refused (c .number)) ≡ refused n
-    go true ih h = ih h
-    go false ih h = cc
-
-pub prefix-accepted : {A B : Type 0} (cs ds : List Check) (x z : A) (y : B) → answer cs x ≡ accepted z → answer (cs ++ ds) y ≡ answer ds y
-unfolding answer
-prefix-accepted [] ds x z y e = refl
-prefix-accepted (c ∷ cs) ds x z y e = go (c .passes) (prefix-accepted cs ds x z y) e
-  where
-    go : (b : Bool) → (answer cs x ≡ accepted z → answer (cs ++ ds) y ≡ answer ds y) → cond b (answer cs x) (refused (c .number)) ≡ accepted z
-        → cond b (answer (cs ++ ds) y) (refused (c .number)) ≡ answer ds y
-    go true ih h = ih h
-    go false ih h = let w : _≡_ {A = ℕ} 0 1 = cc in absurd (omega arith)
+use Rattle.places.proofs.PlaceLaws.{sized, element-lt}
 
 and-true : (b : Bool) → (b && true) ≡ b
 and-true true = refl
 and-true false = refl
-
-pub after-refused : {A B : Type 0} (a : Answer A) (n : ℕ) (x y : B) → a ≡ refused n → after a x y ≡ y
-unfolding after
-after-refused a n x y e = ap (λ z. after z x y) e
-
-pub after-accepted : {A B : Type 0} (a : Answer A) (r : A) (x y : B) → a ≡ accepted r → after a x y ≡ x
-unfolding after
-after-accepted a r x y e = ap (λ z. after z x y) e
 
 module _ (g : Shape) (s : ℕ) (f : List ℕ) where
   abbrev p : List ℕ
@@ -110,14 +80,6 @@ module _ (g : Shape) (s : ℕ) (f : List ℕ) where
   first-accepted ds y t e = prefix-accepted first ds (total quadratic g p) t y e
 
 -- ---- the reading of the total, by its tests
-pub searched-sum : (b : Bool) (n t : ℕ) → cond b (Sum n) Unsound ≡ Sum t → (b ≡ true) × (n ≡ t)
-searched-sum true n t e = (refl, cc)
-searched-sum false n t e = let z : _≡_ {A = ℕ} 0 1 = cc in absurd (omega arith)
-
-pub searched-unsound : (b : Bool) (n : ℕ) → cond b (Sum n) Unsound ≡ Unsound → b ≡ false
-searched-unsound true n e = let z : _≡_ {A = ℕ} 0 1 = cc in absurd (omega arith)
-searched-unsound false n e = refl
-
 module _ (g : Shape) (s : ℕ) (f : List ℕ) where
   pub total-bad-shape : admitted g ≡ false → totalReading quadratic g s f ≡ refused 2
   unfolding totalReading answer
@@ -131,15 +93,10 @@ module _ (g : Shape) (s : ℕ) (f : List ℕ) where
   unfolding totalReading answer soundIfThere
   total-no-tracer a r t = rw (a, le-leb _ _ r, le-ltb _ _ t)
 
-  pub total-unsound : admitted g ≡ true → fieldLength quadratic g ≤ length f → s < g .tracers → searched g (part quadratic g s f) ≡ Unsound → totalReading quadratic g s f ≡ refused 6
+  -- what is left is the search of the tracer's part
+  pub total-searched : admitted g ≡ true → fieldLength quadratic g ≤ length f → s < g .tracers → totalReading quadratic g s f ≡ searched g (part quadratic g s f)
   unfolding totalReading answer soundIfThere searched
-  total-unsound a r t e = rw (a, le-leb _ _ r, lt-ltb _ _ t, searched-unsound (sound quadratic g (part quadratic g s f)) (total quadratic g (part quadratic g s f)) e)
-
-  pub total-found : (t : ℕ) → admitted g ≡ true → fieldLength quadratic g ≤ length f → s < g .tracers → searched g (part quadratic g s f) ≡ Sum t → totalReading quadratic g s f ≡ accepted t
-  unfolding totalReading answer soundIfThere searched
-  total-found n a r t e =
-      let w = searched-sum (sound quadratic g (part quadratic g s f)) (total quadratic g (part quadratic g s f)) n e in
-      rw (a, le-leb _ _ r, lt-ltb _ _ t, w .0) (ap accepted (w .1))
+  total-searched a r t = rw (a, le-leb _ _ r, lt-ltb _ _ t)
 
 -- ---- the calls that go on from an accepted reading of the total
 module _ (g : Shape) (s i j : ℕ) (f : List ℕ) where

@@ -9,15 +9,9 @@ use rules::Outcome;
 use rules::Reading;
 use rules::Refusal;
 use rules::Shape;
-use search::LIMIT;
-use search::Total;
+use searches::LIMIT;
 
-pub mod element; // element.rt: one element's ten numbers
-mod fill; // fill.rt: loops that fill a buffer
-pub mod places; // places.rt: shapes, and where numbers stand
-pub mod search; // search.rt: searches of stored winds and of a tracer's numbers
-
-// A tracer's total. Its checks (2, 4, 6, 7) are the first ones of every call on a sound tracer.
+// A tracer's total. Its checks (2, 4, 6, 7) are the first ones of `mass`, `emission` and `withdrawal`, too.
 pub fn total(field: &[u32], shape: Shape, tracer: usize) -> Reading
     ensures { λ r. ⌜ reading r ≡ totalReading quadratic shape tracer (now (field .entry)) ⌝ }
 {
@@ -32,11 +26,7 @@ pub fn total(field: &[u32], shape: Shape, tracer: usize) -> Reading
     }
     let start = places::tracer_start(shape, tracer);
     let end = start + places::tracer_length(shape);
-    let found = search::tracer_total(&field[start..end], shape);
-    match found {
-        Total::Sum(sum) => Reading::Number(sum),
-        Total::Unsound => Reading::Refused(Refusal::UnsoundTracer),
-    }
+    searches::tracer_total(&field[start..end], shape)
 }
 
 // An element's mass.
@@ -52,7 +42,7 @@ pub fn mass(field: &[u32], shape: Shape, tracer: usize, i: usize, j: usize) -> R
             }
             let start = places::element_start(shape, tracer, i, j);
             let end = start + 10;
-            Reading::Number(element::mass(&field[start..end]))
+            Reading::Number(parts::element::mass(&field[start..end]))
         }
     }
 }
@@ -81,7 +71,7 @@ pub fn emission(
             }
             let start = places::element_start(shape, tracer, i, j);
             let end = start + 10;
-            element::emit(&mut field[start..end], q);
+            parts::element::emit(&mut field[start..end], q);
             Outcome::Accepted
         }
     }
@@ -108,7 +98,7 @@ pub fn withdrawal(
             }
             let start = places::element_start(shape, tracer, i, j);
             let end = start + 10;
-            element::withdraw(&mut field[start..end], q);
+            parts::element::withdraw(&mut field[start..end], q);
             Outcome::Accepted
         }
     }
@@ -132,12 +122,12 @@ pub fn load(field: &mut [u32], numbers: &[u32], shape: Shape, tracer: usize) -> 
     if shape.tracers <= tracer {
         return Outcome::Refused(Refusal::NoSuchTracer);
     }
-    if LIMIT < fill::loaded_total(numbers, n) {
+    if LIMIT < parts::fill::loaded_total(numbers, n) {
         return Outcome::Refused(Refusal::TotalAboveLimit);
     }
     let start = places::tracer_start(shape, tracer);
     let end = start + places::tracer_length(shape);
-    fill::lay(&mut field[start..end], numbers, n);
+    parts::fill::lay(&mut field[start..end], numbers, n);
     Outcome::Accepted
 }
 
@@ -158,8 +148,8 @@ pub fn fresh(field: &mut [u32], winds: &mut [i16], shape: Shape) -> Outcome
     if winds.len() < faces {
         return Outcome::Refused(Refusal::ShortBuffer);
     }
-    fill::clear(field, length);
-    fill::clear_wind(winds, faces);
+    parts::fill::clear(field, length);
+    parts::fill::clear_wind(winds, faces);
     Outcome::Accepted
 }
 

@@ -7,12 +7,12 @@ use native.Mathlib.Omega.{arith}
 use Rattle.rules.specs.declared.Shape.{Shape}
 use Rattle.rules.specs.Field.{elements}
 use Rattle.rules.specs.Grid.{west, east, south, north}
-use Rattle.grid.specs.Place.{Fine, Placed}
+use Rattle.grid.specs.Place.{SmallGrid, Placed}
 
-pub elements-le : (g : Shape) → Fine g → elements g ≤ 4096
+pub elements-le : (g : Shape) → SmallGrid g → elements g ≤ 4096
 elements-le g h = mul-le-mul (h .nx-small) (h .ny-small)
 
-pub row-le : (g : Shape) → Fine g → g .nx ≤ elements g
+pub row-le : (g : Shape) → SmallGrid g → g .nx ≤ elements g
 row-le g h = omega (arith, mul-le-mul-left (g .nx) (h .ny-above), mul-one (g .nx))
 
 -- one place back and one on, around m places
@@ -37,14 +37,14 @@ module _ (g : Shape) (e : ℕ) (h : Placed g e) where
   row-column = div-add-mod' e (g .nx)
 
   column-lt : e % g .nx < g .nx
-  column-lt = mod-lt e (h .fine .nx-above)
+  column-lt = mod-lt e (h .small-grid .nx-above)
 
   row-lt : e / g .nx < g .ny
-  row-lt = div-lt-iff-lt-mul (h .fine .nx-above) .1 (omega (arith, h .inside, mul-comm (g .nx) (g .ny)))
+  row-lt = div-lt-iff-lt-mul (h .small-grid .nx-above) .1 (omega (arith, h .inside, mul-comm (g .nx) (g .ny)))
 
   pub west-first : e % g .nx ≡ 0 → e + g .nx - 1 ≡ west g e
   unfolding west
-  west-first z = omega (arith, back-first (g .nx) (e % g .nx) (h .fine .nx-above) z, row-column, h .fine .nx-above)
+  west-first z = omega (arith, back-first (g .nx) (e % g .nx) (h .small-grid .nx-above) z, row-column, h .small-grid .nx-above)
 
   pub west-next : e % g .nx ≢ 0 → e - 1 ≡ west g e
   unfolding west
@@ -68,8 +68,8 @@ module _ (g : Shape) (e : ℕ) (h : Placed g e) where
   unfolding south
   south-first l =
       let f = first-row l in
-      let r = back-first (g .ny) (e / g .nx) (h .fine .ny-above) (f .0) in
-      let m : elements g ≡ (g .ny - 1) * g .nx + g .nx = mul-comm (g .nx) (g .ny) ∙ ap (λ n. n * g .nx) (omega (arith, h .fine .ny-above)) ∙ suc-mul (g .ny - 1) (g .nx) in
+      let r = back-first (g .ny) (e / g .nx) (h .small-grid .ny-above) (f .0) in
+      let m : elements g ≡ (g .ny - 1) * g .nx + g .nx = mul-comm (g .nx) (g .ny) ∙ ap (λ n. n * g .nx) (omega (arith, h .small-grid .ny-above)) ∙ suc-mul (g .ny - 1) (g .nx) in
       omega (arith, ap (λ q. q * g .nx) r, f .1, m)
 
   pub south-next : g .nx ≤ e → e - g .nx ≡ south g e

@@ -4,7 +4,7 @@ use Rattle.rules.specs.declared.Shape.{Shape}
 use Rattle.rules.specs.Field.{elements}
 
 -- a shape of at least one element and at most 64 by 64
-pub record Fine (g : Shape) : Type 0 where
+pub record SmallGrid (g : Shape) : Type 0 where
   pub nx-above : 0 < g .nx
   pub nx-small : g .nx ≤ 64
   pub ny-above : 0 < g .ny
@@ -12,5 +12,5 @@ pub record Fine (g : Shape) : Type 0 where
 
 -- element e is on its grid
 pub record Placed (g : Shape) (e : ℕ) : Type 0 where
-  pub fine : Fine g
+  pub small-grid : SmallGrid g
   pub inside : e < elements g

@@ -26,7 +26,7 @@ use Rattle.ledger.specs.Lists.{Call, windCall, on, State, Buffers, fresh
 
 module _ (κ : Kind) (g : Shape) where
   -- the field is long enough, every part is good, and the ledger's numbers are the masses
-  pub record Fine (field : List ℕ) (held : ℕ → ℕ → ℤ) : Type 0 where
+  pub record Agreeing (field : List ℕ) (held : ℕ → ℕ → ℤ) : Type 0 where
     pub room : fieldLength κ g ≤ length field
     pub good : (s : ℕ) → s < g .tracers → Good κ g (part κ g s field)
     pub agree : (s : ℕ) → s < g .tracers → (e : ℕ) → e < elements g → held s e ≡ pos (mass κ (part κ g s field) e)
@@ -45,13 +45,13 @@ module _ (κ : Kind) (g : Shape) where
 
   module _ (hw : 0 < weightSum κ) (b : Buffers) where
     -- a call on tracer s
-    module _ (s : ℕ) (op : Operation (Unit {0})) (w : List ℤ) (field : List ℕ) (held : ℕ → ℕ → ℤ) (f : Fine field held) where
+    module _ (s : ℕ) (op : Operation (Unit {0})) (w : List ℤ) (field : List ℕ) (held : ℕ → ℕ → ℤ) (f : Agreeing field held) where
       abbrev lent : Operation Lent
       lent = lend b w op
 
-      refused-fine : (n : ℕ) → Fine field (line κ g (on s op) (refused n) held)
+      refused-agrees : (n : ℕ) → Agreeing field (line κ g (on s op) (refused n) held)
       unfolding line entry
-      refused-fine n = record { room = f .room; good = f .good; agree = λ t h e l. cond-same (eqb s t) (held t e) ∙ f .agree t h e l }
+      refused-agrees n = record { room = f .room; good = f .good; agree = λ t h e l. cond-same (eqb s t) (held t e) ∙ f .agree t h e l }
 
       abbrev new : List ℕ
       new = withPart κ g s (done κ g lent (part κ g s field) .part) field
@@ -72,9 +72,9 @@ module _ (κ : Kind) (g : Shape) where
       kept a = operation-law κ g hw (a .shape .nx-above) (a .shape .ny-above) lent _ (part κ g s field) (f .good s (a .tracer)) (a .passed)
 
       -- of the named tracer: the operation's law; of any other: nothing changed
-      accepted-fine : (a : Accepted κ g s lent field) → Fine new (line κ g (on s op) (accepted (done κ g lent (part κ g s field) .report)) held)
+      accepted-agrees : (a : Accepted κ g s lent field) → Agreeing new (line κ g (on s op) (accepted (done κ g lent (part κ g s field) .report)) held)
       unfolding line
-      accepted-fine a = record {
+      accepted-agrees a = record {
         room = subst (λ x. fieldLength κ g ≤ x) (sym (long a)) (f .room);
         good = λ t h. either (eqb s t)
             (λ y. subst (λ z. Good κ g (part κ g z new)) (eqb→eq s t y) (subst (Good κ g) (sym (there a)) (kept a .good)))
@@ -89,20 +89,20 @@ module _ (κ : Kind) (g : Shape) where
 
           same : (e : ℕ) → e < elements g → entry κ g op r (held s) e ≡ pos (mass κ (part κ g s new) e)
           same e l = sym (entry-lend b w op r (held s) e) ∙ entry-cong κ g lent r (held s) (λ e. pos (mass κ (part κ g s field) e)) e (f .agree s (a .tracer) e l)
-              ∙ kept a .books e l ∙ ap (λ x. pos (mass κ x e)) (sym (there a))
+              ∙ kept a .entries e l ∙ ap (λ x. pos (mass κ x e)) (sym (there a))
 
-      call-fine : Fine (call κ g s lent field .field) (line κ g (on s op) (call κ g s lent field .reply) held)
-      call-fine = call-ind κ g s lent field (λ a x. Fine x (line κ g (on s op) a held)) refused-fine accepted-fine
+      call-agrees : Agreeing (call κ g s lent field .field) (line κ g (on s op) (call κ g s lent field .reply) held)
+      call-agrees = call-ind κ g s lent field (λ a x. Agreeing x (line κ g (on s op) a held)) refused-agrees accepted-agrees
 
-    perform-fine : (c : Call) (st : State) (held : ℕ → ℕ → ℤ) → Fine (st .field) held → Fine (perform κ g b c st .state .field) (line κ g c (perform κ g b c st .reply) held)
+    perform-agrees : (c : Call) (st : State) (held : ℕ → ℕ → ℤ) → Agreeing (st .field) held → Agreeing (perform κ g b c st .state .field) (line κ g c (perform κ g b c st .reply) held)
     unfolding perform line
-    perform-fine (windCall x) st held f = f
-    perform-fine (on s op) st held f = call-fine s op (st .wind) (st .field) held f
+    perform-agrees (windCall x) st held f = f
+    perform-agrees (on s op) st held f = call-agrees s op (st .wind) (st .field) held f
 
-    pub run-fine : (cs : List Call) (st : State) (held : ℕ → ℕ → ℤ) → Fine (st .field) held → Fine (run κ g b cs st .end .field) (ledgerFrom κ g held cs (run κ g b cs st .replies))
+    pub run-agrees : (cs : List Call) (st : State) (held : ℕ → ℕ → ℤ) → Agreeing (st .field) held → Agreeing (run κ g b cs st .end .field) (ledgerFrom κ g held cs (run κ g b cs st .replies))
     unfolding run ledgerFrom
-    run-fine [] st held f = f
-    run-fine (c ∷ cs) st held f = run-fine cs (perform κ g b c st .state) (line κ g c (perform κ g b c st .reply) held) (perform-fine c st held f)
+    run-agrees [] st held f = f
+    run-agrees (c ∷ cs) st held f = run-agrees cs (perform κ g b c st .state) (line κ g c (perform κ g b c st .reply) held) (perform-agrees c st held f)
 
 -- ---- the fresh field
 module _ (κ : Kind) (g : Shape) (hw : 0 < weightSum κ) (field : List ℕ) (wind : List ℤ) (room : fieldLength κ g ≤ length field) where
@@ -145,11 +145,11 @@ module _ (κ : Kind) (g : Shape) (hw : 0 < weightSum κ) (field : List ℕ) (win
     bounded = omega (arith, sum-zero (elements g) (mass κ (part κ g s zeros)) (λ e he. zero-mass s e hs he));
   }
 
-  pub fresh-fine : Fine κ g (fresh κ g field wind .field) (λ s e. pos 0)
+  pub fresh-agrees : Agreeing κ g (fresh κ g field wind .field) (λ s e. pos 0)
   unfolding fresh
-  fresh-fine = record { room = subst (λ x. fieldLength κ g ≤ x) (sym zeros-length) room; good = zero-good; agree = λ s hs e he. ap pos (sym (zero-mass s e hs he)) }
+  fresh-agrees = record { room = subst (λ x. fieldLength κ g ≤ x) (sym zeros-length) room; good = zero-good; agree = λ s hs e he. ap pos (sym (zero-mass s e hs he)) }
 
   -- the ledger agrees after every list
-  pub list-fine : (b : Buffers) (cs : List Call) → Fine κ g (run κ g b cs (fresh κ g field wind) .end .field) (ledger κ g cs (run κ g b cs (fresh κ g field wind) .replies))
+  pub list-agrees : (b : Buffers) (cs : List Call) → Agreeing κ g (run κ g b cs (fresh κ g field wind) .end .field) (ledger κ g cs (run κ g b cs (fresh κ g field wind) .replies))
   unfolding ledger
-  list-fine b cs = run-fine κ g hw b cs (fresh κ g field wind) (λ s e. pos 0) fresh-fine
+  list-agrees b cs = run-agrees κ g hw b cs (fresh κ g field wind) (λ s e. pos 0) fresh-agrees

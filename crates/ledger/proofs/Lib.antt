@@ -2,3 +2,4 @@
 pub mod Agreement
 pub mod Striking
 pub mod Theorem
+pub mod Rows

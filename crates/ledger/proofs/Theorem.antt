@@ -10,21 +10,21 @@ use Rattle.rules.specs.declared.Shape.{Shape}
 use Rattle.rules.specs.Field.{Kind, quadratic, weightSum, fieldLength, limit}
 use Rattle.ledger.specs.Lists.{Call, Buffers, fresh}
 use Rattle.ledger.specs.Demand3.{Demand3}
-use Rattle.ledger.proofs.Agreement.{list-fine, fresh-fine}
+use Rattle.ledger.proofs.Agreement.{list-agrees, fresh-agrees}
 use Rattle.ledger.proofs.Striking.{Like, struck}
 
 -- for any kind of element whose weights sum to more than 0, every shape, buffers of any content that are long enough, every list
 pub demand-3-of : (κ : Kind) → 0 < weightSum κ → (g : Shape) (b : Buffers) (field : List ℕ) (wind : List ℤ) → fieldLength κ g ≤ length field → (calls : List Call)
     → Demand3 κ g b field wind (weightSum κ) limit calls
 demand-3-of κ hw g b field wind room calls =
-    let fine = list-fine κ g hw field wind room b calls in
-    let start = fresh-fine κ g hw field wind room in
+    let agrees = list-agrees κ g hw field wind room b calls in
+    let start = fresh-agrees κ g hw field wind room in
     let st = fresh κ g field wind in
     let like : (s : ℕ) → Like κ g b s st st = λ s. record { room₁ = start .room; room₂ = start .room; winds = refl; parts = refl } in
     record {
-      ledger-agrees = fine .agree;
-      remainders = λ s h e l. fine .good s h .small e l;
-      totals = λ s h. fine .good s h .bounded;
+      ledger-agrees = agrees .agree;
+      remainders = λ s h e l. agrees .good s h .small e l;
+      totals = λ s h. agrees .good s h .bounded;
       replies-stay = λ s h. struck κ g b s calls st st (like s) .replies-left;
       part-stays = λ s h. sym (struck κ g b s calls st st (like s) .ends .parts);
     }

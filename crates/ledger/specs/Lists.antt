@@ -57,10 +57,12 @@ module _ (κ : Kind) (g : Shape) (b : Buffers) where
       let c = call κ g s (lend b (st .wind) op) (st .field) in
       record { reply = c .reply; state = record { field = c .field; wind = st .wind } }
 
+  -- the answers of all calls of a list, and the state after the last
   pub record Ran : Type 0 where
     pub replies : List (Answer (List ℤ))
     pub end : State
 
+  -- the list from a state on: "each call gets field and wind as the one before left them"
   unfoldable pub run : List Call → State → Ran
   unfolding perform
   run [] st = record { replies = []; end = st }

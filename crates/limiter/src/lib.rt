@@ -12,6 +12,7 @@ ghost use Rattle.rules.specs.Field.{quadratic, weighted};
 ghost use Rattle.rules.specs.Limiter.{meanShift, truncated, rescaled, closedUnlevelled, closed};
 ghost use Rattle.limiter.specs.Sizes.{Tentative, Shift, shifted};
 
+// The weights of the nine nodes, for values and for signed values.
 const WEIGHTS: [u64; 9] = [1, 4, 1, 4, 16, 4, 1, 4, 1];
 
 const SIGNED_WEIGHTS: [i64; 9] = [1, 4, 1, 4, 16, 4, 1, 4, 1];

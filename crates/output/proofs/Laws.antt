@@ -26,7 +26,7 @@ use Rattle.rules.specs.Program.{gridLine, faceLine, faceRow, faceLines, totalLi
 use Rattle.rules.proofs.StepLaws.{report-length}
 use Rattle.text.specs.Added.{Added}
 use Rattle.text.proofs.AddedLaws.{none-added, wider, then, added-room}
-use Rattle.text.proofs.RowLaws.{face-lt}
+use Rattle.lines.proofs.RowLaws.{face-lt}
 use Rattle.output.specs.declared.Lines.{Lines}
 use Rattle.output.specs.declared.Lines.the-variants.{UpTo, Refused}
 use Rattle.output.specs.AddedLines.{tracerRoom, LinesAdded, AddedOrRefused}
@@ -86,7 +86,7 @@ module _ (g : Shape) (wind : List ℤ) (s : ℕ) (field : List ℕ) (rl wl : ℕ
     lines-are t a old new q room =
         let p = stepping g s field wind rl wl e in
         ap (λ l. tracerLines g s l t) (q ∙ sym (report-accepted (c .reply) rep old (p .answers)))
-        ∙ lines-kept g s t a rep old (report-length quadratic g (p .fine .nx-above) (p .fine .ny-above) (windAt wind) (part quadratic g s field) (stages quadratic g (windAt wind) (part quadratic g s field))) room
+        ∙ lines-kept g s t a rep old (report-length quadratic g (p .small-grid .nx-above) (p .small-grid .ny-above) (windAt wind) (part quadratic g s field) (stages quadratic g (windAt wind) (part quadratic g s field))) room
 
 -- ---- all tracers: after the line of the grid, the first s of them stand in the buffer from place `start` on
 pub record TracersAdded (g : Shape) (wind : List ℤ) (s : ℕ) (first now′ : List ℕ) (start : ℕ) (old new : List ℕ) (end : ℕ) : Type 0 where

@@ -45,7 +45,7 @@ fn tracer(
             let found = field::total(field, shape, tracer);
             match found {
                 Reading::Refused(r) => Lines::Refused(r),
-                Reading::Number(total) => Lines::UpTo(text::tracer_lines(
+                Reading::Number(total) => Lines::UpTo(lines::tracer_lines(
                     out,
                     at,
                     shape,
@@ -75,7 +75,7 @@ fn tracers(
     ensures { λ r. ⌜ AddedOrRefused (68 + shape .tracers * tracerRoom shape) 0 (upTo shape (now (wind .entry)) (shape .tracers) (now (field .entry))) (now (field .exit)) (now (out .entry)) (now (out .exit)) r ⌝ }
 {
     let count = shape.tracers;
-    let mut at = text::grid_line(out, 0, shape);
+    let mut at = lines::grid_line(out, 0, shape);
     for s in 0..count {
         let added = tracer(out, field, wind, report, work, shape, s, at);
         let Lines::UpTo(end) = added else {
@@ -103,15 +103,15 @@ fn fill(
     ensures { λ r. ⌜ take r (now (out .exit)) ≡ printed (now (file .entry)) (now (field .entry)) (now (wind .entry)) ⌝ }
 {
     if 65536 < file.len() {
-        return text::refused_line(out, 0, 3);
+        return lines::refused_line(out, 0, 3);
     }
-    let answer = field_file::read(file, field, wind);
+    let answer = file_reading::read(file, field, wind);
     match answer {
-        FileRead::Refused(r) => text::refused_line(out, 0, rules::refusal_number(r)),
+        FileRead::Refused(r) => lines::refused_line(out, 0, rules::refusal_number(r)),
         FileRead::Found(shape) => {
             let added = tracers(out, field, wind, report, work, shape);
             match added {
-                Lines::Refused(r) => text::refused_line(out, 0, rules::refusal_number(r)),
+                Lines::Refused(r) => lines::refused_line(out, 0, rules::refusal_number(r)),
                 Lines::UpTo(end) => end,
             }
         }
@@ -139,5 +139,5 @@ pub fn print(file: &[u8], out: &mut [u8]) -> usize
         &mut report,
         &mut work,
     );
-    text::bytes::put(out, 0, &buffer[..n])
+    text::put(out, 0, &buffer[..n])
 }

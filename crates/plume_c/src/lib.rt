@@ -2,12 +2,10 @@
 // An answer is 0 where the call is accepted, else the refusal's number; a reading's is its number, or the refusal's number negated.
 ghost use mathlib.Core.Path.{_≡_};
 ghost use Rattle.rules.specs.Field.{quadratic};
-ghost use Rattle.rules.specs.Calls.{load, emission, withdrawal, step, lent, call, reportAfter, WorkAfter, massReading, totalReading, freshReply, freshField, freshWind, windReply, windAfter};
+ghost use Rattle.rules.specs.Calls.{load, emission, withdrawal, call, stepCall, reportAfter, WorkAfter, massReading, totalReading, freshReply, freshField, freshWind, windReply, windAfter};
 ghost use Rattle.rules.specs.FieldFile.{readReply, readField, readWind, writeReply, writeFile};
-ghost use Rattle.plume_c.specs.Numbers.{shapeOf, faceOf, code, numberOr, shapeOr};
+ghost use Rattle.c_numbers.specs.Numbers.{shapeOf, faceOf, code, numberOr, shapeOr};
 use rules::Shape;
-
-mod numbers; // numbers.rt: answers and faces as numbers
 
 // Zeros in field and wind.
 #[no_mangle]
@@ -27,7 +25,7 @@ pub extern "C" fn plume_fresh(
         ny,
         tracers: smokes,
     };
-    numbers::code(field::fresh(field, wind, shape))
+    c_numbers::code(field::fresh(field, wind, shape))
 }
 
 // A new wind for one face.
@@ -50,8 +48,8 @@ pub extern "C" fn plume_wind(
         ny,
         tracers: smokes,
     };
-    let face = numbers::face(way, i, j, c);
-    numbers::code(field::wind(wind, shape, face))
+    let face = c_numbers::face(way, i, j, c);
+    c_numbers::code(field::wind(wind, shape, face))
 }
 
 // Nine numbers for each element of a smoke.
@@ -72,7 +70,7 @@ pub extern "C" fn plume_load(
         ny,
         tracers: smokes,
     };
-    numbers::code(field::load(field, numbers, shape, smoke))
+    c_numbers::code(field::load(field, numbers, shape, smoke))
 }
 
 // Emission of q into an element.
@@ -95,7 +93,7 @@ pub extern "C" fn plume_emission(
         ny,
         tracers: smokes,
     };
-    numbers::code(field::emission(field, shape, smoke, i, j, q))
+    c_numbers::code(field::emission(field, shape, smoke, i, j, q))
 }
 
 // Withdrawal of q from an element.
@@ -118,7 +116,7 @@ pub extern "C" fn plume_withdrawal(
         ny,
         tracers: smokes,
     };
-    numbers::code(field::withdrawal(field, shape, smoke, i, j, q))
+    c_numbers::code(field::withdrawal(field, shape, smoke, i, j, q))
 }
 
 // A step of one smoke.
@@ -133,17 +131,17 @@ pub extern "C" fn plume_step(
     smokes: usize,
     smoke: usize,
 ) -> u8
-    ensures { λ r. ⌜ r ≡ code (call quadratic (shapeOf nx ny smokes) smoke (step (lent (now (wind .entry)) (now (report .entry)) (now (work .entry)))) (now (field .entry)) .reply) ⌝ }
-    ensures { λ _. ⌜ now (field .exit) ≡ call quadratic (shapeOf nx ny smokes) smoke (step (lent (now (wind .entry)) (now (report .entry)) (now (work .entry)))) (now (field .entry)) .field ⌝ }
-    ensures { λ _. ⌜ now (report .exit) ≡ reportAfter (call quadratic (shapeOf nx ny smokes) smoke (step (lent (now (wind .entry)) (now (report .entry)) (now (work .entry)))) (now (field .entry)) .reply) (now (report .entry)) ⌝ }
-    ensures { λ _. ⌜ WorkAfter (call quadratic (shapeOf nx ny smokes) smoke (step (lent (now (wind .entry)) (now (report .entry)) (now (work .entry)))) (now (field .entry)) .reply) (now (work .entry)) (now (work .exit)) ⌝ }
+    ensures { λ r. ⌜ r ≡ code (stepCall quadratic (shapeOf nx ny smokes) smoke (now (field .entry)) (now (wind .entry)) (now (report .entry)) (now (work .entry)) .reply) ⌝ }
+    ensures { λ _. ⌜ now (field .exit) ≡ stepCall quadratic (shapeOf nx ny smokes) smoke (now (field .entry)) (now (wind .entry)) (now (report .entry)) (now (work .entry)) .field ⌝ }
+    ensures { λ _. ⌜ now (report .exit) ≡ reportAfter (stepCall quadratic (shapeOf nx ny smokes) smoke (now (field .entry)) (now (wind .entry)) (now (report .entry)) (now (work .entry)) .reply) (now (report .entry)) ⌝ }
+    ensures { λ _. ⌜ WorkAfter (stepCall quadratic (shapeOf nx ny smokes) smoke (now (field .entry)) (now (wind .entry)) (now (report .entry)) (now (work .entry)) .reply) (now (work .entry)) (now (work .exit)) ⌝ }
 {
     let shape = Shape {
         nx,
         ny,
         tracers: smokes,
     };
-    numbers::code(transport::step(field, wind, report, work, shape, smoke))
+    c_numbers::code(transport::step(field, wind, report, work, shape, smoke))
 }
 
 // What an element holds.
@@ -164,7 +162,7 @@ pub extern "C" fn plume_mass(
         ny,
         tracers: smokes,
     };
-    numbers::number_or(field::mass(field, shape, smoke, i, j))
+    c_numbers::number_or(field::mass(field, shape, smoke, i, j))
 }
 
 // A smoke's total.
@@ -183,7 +181,7 @@ pub extern "C" fn plume_total(
         ny,
         tracers: smokes,
     };
-    numbers::number_or(field::total(field, shape, smoke))
+    c_numbers::number_or(field::total(field, shape, smoke))
 }
 
 // Reads a field file: its shape as nx + 256 ny + 65536 K.
@@ -193,7 +191,7 @@ pub extern "C" fn plume_read(field: &mut [u32], wind: &mut [i16], file: &[u8]) -
     ensures { λ _. ⌜ now (field .exit) ≡ readField quadratic (now (file .entry)) (now (field .entry)) (now (wind .entry)) ⌝ }
     ensures { λ _. ⌜ now (wind .exit) ≡ readWind quadratic (now (file .entry)) (now (field .entry)) (now (wind .entry)) ⌝ }
 {
-    numbers::shape_or(field_file::read(file, field, wind))
+    c_numbers::shape_or(file_reading::read(file, field, wind))
 }
 
 // Writes a field file: its length in bytes.
@@ -214,5 +212,5 @@ pub extern "C" fn plume_write(
         ny,
         tracers: smokes,
     };
-    numbers::number_or(field_file::write(file, field, wind, shape))
+    c_numbers::number_or(file_writing::write(file, field, wind, shape))
 }

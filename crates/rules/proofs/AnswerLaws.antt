@@ -1,9 +1,11 @@
 -- An answer from checks: refused, or accepted with every check passed.
+use mathlib.Core.Path.{_≡_, refl, ap}
 use mathlib.Core.Bool.{Bool, true, false, cond}
-use mathlib.Core.List.{List, [], _∷_}
+use mathlib.Core.List.{List, [], _∷_, _++_}
 use Prim.Native.Nat.{ℕ}
+use native.Mathlib.Omega.{arith}
 use lib.Dec.{T}
-use Rattle.rules.specs.Answers.{Answer, accepted, refused, Check, answer}
+use Rattle.rules.specs.Answers.{Answer, accepted, refused, Check, answer, after}
 
 -- every check of the list is passed
 abbrev pub Passed : List Check → Type 0
@@ -18,3 +20,33 @@ answer-ind P (c ∷ cs) x no′ yes′ = go (c .passes) (λ t. answer-ind P cs x
     go : (b : Bool) → (T b → P (answer cs x)) → P (cond b (answer cs x) (refused (c .number)))
     go true f = f tt
     go false f = no′ (c .number)
+
+-- ---- answers of a list of checks that another list goes on
+pub prefix-refused : {A B : Type 0} (cs ds : List Check) (x : A) (y : B) (n : ℕ) → answer cs x ≡ refused n → answer (cs ++ ds) y ≡ refused n
+unfolding answer
+prefix-refused [] ds x y n e = let z : _≡_ {A = ℕ} 0 1 = cc in absurd (omega arith)
+prefix-refused (c ∷ cs) ds x y n e = go (c .passes) (prefix-refused cs ds x y n) e
+  where
+    go : (b : Bool) → (answer cs x ≡ refused n → answer (cs ++ ds) y ≡ refused n) → cond b (answer cs x) (refused (c .number)) ≡ refused n
+        → cond b (answer (cs ++ ds) y) (refused (c .number)) ≡ refused n
+    go true ih h = ih h
+    go false ih h = cc
+
+pub prefix-accepted : {A B : Type 0} (cs ds : List Check) (x z : A) (y : B) → answer cs x ≡ accepted z → answer (cs ++ ds) y ≡ answer ds y
+unfolding answer
+prefix-accepted [] ds x z y e = refl
+prefix-accepted (c ∷ cs) ds x z y e = go (c .passes) (prefix-accepted cs ds x z y) e
+  where
+    go : (b : Bool) → (answer cs x ≡ accepted z → answer (cs ++ ds) y ≡ answer ds y) → cond b (answer cs x) (refused (c .number)) ≡ accepted z
+        → cond b (answer (cs ++ ds) y) (refused (c .number)) ≡ answer ds y
+    go true ih h = ih h
+    go false ih h = let w : _≡_ {A = ℕ} 0 1 = cc in absurd (omega arith)
+
+-- ---- what a call leaves, by its answer
+pub after-refused : {A B : Type 0} (a : Answer A) (n : ℕ) (x y : B) → a ≡ refused n → after a x y ≡ y
+unfolding after
+after-refused a n x y e = ap (λ z. after z x y) e
+
+pub after-accepted : {A B : Type 0} (a : Answer A) (r : A) (x y : B) → a ≡ accepted r → after a x y ≡ x
+unfolding after
+after-accepted a r x y e = ap (λ z. after z x y) e

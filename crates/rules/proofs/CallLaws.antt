@@ -26,7 +26,7 @@ use Rattle.rules.proofs.LimiterLaws.{closed-length, closed-remainder, w
 use Rattle.rules.proofs.GridLaws.{only-yes, only-no, only-neg}
 use Rattle.rules.proofs.PartLaws.{Good, held, length-withElement, mass-there, mass-elsewhere, remainder-there, remainder-elsewhere, length-loaded, mass-loaded, remainder-loaded, total-pos, total-by}
 use Rattle.rules.proofs.LedgerLaws.{sum-plus}
-use Rattle.rules.proofs.StepLaws.{held-closed, held-unlevelled, length-closed, remainder-closed, length-after, good-after, books-after}
+use Rattle.rules.proofs.StepLaws.{held-closed, held-unlevelled, length-closed, remainder-closed, length-after, good-after, entries-after}
 
 -- element (i, j) of a grid has an index below the number of elements
 pub on-grid-lt : (g : Shape) (i j : ℕ) → T (onGrid g i j) → element g i j < elements g
@@ -74,7 +74,7 @@ done-length κ g hx hy (step l) there p h c = length-after κ g hx hy (windAt (l
 -- what an operation leaves of a part p, and the ledger's line for it
 pub record Kept (κ : Kind) (g : Shape) (op : Operation Lent) (p : List ℕ) (d : Stepped) : Type 0 where
   pub good : Good κ g (d .part)
-  pub books : (e : ℕ) → e < elements g → entry κ g op (accepted (d .report)) (λ e. pos (mass κ p e)) e ≡ pos (mass κ (d .part) e)
+  pub entries : (e : ℕ) → e < elements g → entry κ g op (accepted (d .report)) (λ e. pos (mass κ p e)) e ≡ pos (mass κ (d .part) e)
 
 -- ---- one element replaced by numbers x that hold its mass and z, which may be negative
 module _ (κ : Kind) (g : Shape) (e : ℕ) (x p : List ℕ) (he : e < elements g) (width : length x ≡ elementLength κ) (h : Good κ g p) (small : getD x (κ .nodes) 0 < weightSum κ) (z : ℤ) (holds : pos (held κ x) ≡ pos (mass κ p e) +ℤ z) where
@@ -82,15 +82,15 @@ module _ (κ : Kind) (g : Shape) (e : ℕ) (x p : List ℕ) (he : e < elements g
   new = withElement κ e x p
 
   -- the ledger's line
-  books-of : (e′ : ℕ) → e′ < elements g → pos (mass κ p e′) +ℤ only (eqb e e′) z ≡ pos (mass κ new e′)
-  books-of e′ _ = either (eqb e e′)
+  entries-of : (e′ : ℕ) → e′ < elements g → pos (mass κ p e′) +ℤ only (eqb e e′) z ≡ pos (mass κ new e′)
+  entries-of e′ _ = either (eqb e e′)
       (λ t. let q : e ≡ e′ = eqb→eq e e′ t in subst (λ y. pos (mass κ p y) +ℤ only (eqb e y) z ≡ pos (mass κ new y)) q
       (ap (λ y. pos (mass κ p e) +ℤ y) (only-yes e e z refl) ∙ sym holds ∙ ap pos (sym (mass-there κ g e x p he width (h .size)))))
       (λ t. let ne : e ≢ e′ = neqb→ne e e′ t in
       ap (λ y. pos (mass κ p e′) +ℤ y) (only-no e e′ z ne) ∙ +ℤ-idr (pos (mass κ p e′)) ∙ ap pos (sym (mass-elsewhere κ g e x p he width (h .size) e′ ne)))
 
   total-of : pos (total κ g new) ≡ pos (total κ g p) +ℤ z
-  total-of = total-by κ g new (λ e′. pos (mass κ p e′) +ℤ only (eqb e e′) z) books-of ∙ sum-plus (elements g) e z (λ e. pos (mass κ p e)) he ∙ ap (λ y. y +ℤ z) (total-pos κ g p)
+  total-of = total-by κ g new (λ e′. pos (mass κ p e′) +ℤ only (eqb e e′) z) entries-of ∙ sum-plus (elements g) e z (λ e. pos (mass κ p e)) he ∙ ap (λ y. y +ℤ z) (total-pos κ g p)
 
   good-of : total κ g new ≤ limit → Good κ g new
   good-of b = record {
@@ -106,7 +106,7 @@ load-law : (κ : Kind) (g : Shape) (hw : 0 < weightSum κ) (l p : List ℕ) → 
 unfolding entry
 load-law κ g hw l p b = record {
   good = record { size = length-loaded κ g l; bounded = b; small = λ e h. subst (λ x. x < weightSum κ) (sym (remainder-loaded κ g l e h)) hw };
-  books = λ e h. ap pos (sym (mass-loaded κ g l e h));
+  entries = λ e h. ap pos (sym (mass-loaded κ g l e h));
 }
 
 emission-law : (κ : Kind) (g : Shape) (hw : 0 < weightSum κ) (i j q : ℕ) (p : List ℕ) → Good κ g p → T (onGrid g i j) → total κ g p + q ≤ limit
@@ -120,7 +120,7 @@ emission-law κ g hw i j q p h on b =
     let small = remainder-emitted κ e q p hw in
     let holds = ap pos (held-emitted κ e q p) in
     let sum-is : total κ g (withElement κ e x p) ≡ total κ g p + q = pos-injective (total-of κ g e x p he width h small (pos q) holds) in
-    record { good = good-of κ g e x p he width h small (pos q) holds (omega arith); books = books-of κ g e x p he width h small (pos q) holds }
+    record { good = good-of κ g e x p he width h small (pos q) holds (omega arith); entries = entries-of κ g e x p he width h small (pos q) holds }
 
 sub-pos : (m q : ℕ) → q ≤ m → pos (m - q) ≡ pos m -ℤ pos q
 sub-pos m q h = eq-parts (omega (arith, sub-parts-of (pos m) (pos q), positive-pos m, negative-pos m, positive-pos q, negative-pos q, positive-pos (m - q), negative-pos (m - q)))
@@ -141,14 +141,14 @@ withdrawal-law κ g i j q p h on b =
     let fewer = sub-le (total κ g p) (total κ g (withElement κ e x p)) q (total-of κ g e x p he width h small (negℤ (pos q)) holds) in
     record {
       good = good-of κ g e x p he width h small (negℤ (pos q)) holds (omega (arith, h .bounded));
-      books = λ e′ l. ap (λ y. pos (mass κ p e′) +ℤ y) (only-neg (eqb e e′) (pos q)) ∙ books-of κ g e x p he width h small (negℤ (pos q)) holds e′ l;
+      entries = λ e′ l. ap (λ y. pos (mass κ p e′) +ℤ y) (only-neg (eqb e e′) (pos q)) ∙ entries-of κ g e x p he width h small (negℤ (pos q)) holds e′ l;
     }
 
 step-law : (κ : Kind) (g : Shape) (hw : 0 < weightSum κ) (hx : 0 < g .nx) (hy : 0 < g .ny) (l : Lent) (p : List ℕ) → Good κ g p → Kept κ g (step l) p (tracerStep κ g (windAt (l .wind)) p)
 unfolding entry tracerStep
 step-law κ g hw hx hy l p h =
     let w = windAt (l .wind) in
-    record { good = good-after κ g hx hy w p (stages κ g w p) hw (h .bounded); books = books-after κ g hx hy w p (stages κ g w p) }
+    record { good = good-after κ g hx hy w p (stages κ g w p) hw (h .bounded); entries = entries-after κ g hx hy w p (stages κ g w p) }
 
 pub operation-law : (κ : Kind) (g : Shape) (hw : 0 < weightSum κ) (hx : 0 < g .nx) (hy : 0 < g .ny) (op : Operation Lent) (there : Bool) (p : List ℕ) → Good κ g p → Passed (checks κ g op there p)
     → Kept κ g op p (done κ g op p)

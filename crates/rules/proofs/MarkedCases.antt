@@ -23,7 +23,7 @@ pub data Question : Type 0 where
   three-outflows : ℕ → Question
   -- a face of this wind and this sum: its flux; and the donor of the flux, 0 for the element west of it and 1 for the one east
   amount : ℤ → ℤ → Question
-  giver : ℤ → ℤ → Question
+  donorFor : ℤ → ℤ → Question
   -- these ψ and this T: what levelling adds, the weighted sum P after truncation, then the closed element
   closing : List ℤ → ℕ → Question
 
@@ -43,7 +43,7 @@ pub answered : Question → List ℤ
 unfolding cut-sevens fluxOf donor closed adjusted meanShift truncated weighted
 answered (three-outflows m) = cut-sevens m 4 ∷ cut-sevens m (northFace grid 4) ∷ cut-sevens m 3 ∷ []
 answered (amount c s) = fluxOf quadratic c s ∷ []
-answered (giver c s) = pos (donor grid (λ f. fluxOf quadratic c s) 0) ∷ []
+answered (donorFor c s) = pos (donor grid (λ f. fluxOf quadratic c s) 0) ∷ []
 answered (closing ψ t) =
     let values : ℕ → ℤ = λ k. getD ψ k (pos 0) in
     meanShift quadratic values t ∷ pos (weighted quadratic (truncated (adjusted quadratic values t))) ∷ map pos (closed quadratic values t)
@@ -75,7 +75,7 @@ cases =
     ∷ row (amount (pos 1) (pos 4095)) (pos 0 ∷ [])
     ∷ row (amount (negsuc 0) (pos 4097)) (negsuc 0 ∷ [])
     ∷ row (amount (pos 1) (negsuc 4096)) (negsuc 0 ∷ [])
-    ∷ row (giver (pos 1) (negsuc 4096)) (pos 1 ∷ [])
+    ∷ row (donorFor (pos 1) (negsuc 4096)) (pos 1 ∷ [])
     -- "Closing, ψ centre 10, one corner −60, others 0, T = 100: P = 160, centre 6, ρ = 4."
     ∷ row (closing (nine (negsuc 59) (pos 0) (pos 0) (pos 10)) 100) (pos 0 ∷ pos 160 ∷ nine (pos 0) (pos 0) (pos 0) (pos 6) ++ (pos 4 ∷ []))
     -- "Centre 3, corners −2, edges 0, T = 36: levelled by −1, P = 32, centre 2, others 0, ρ = 4."

@@ -35,7 +35,7 @@ unfoldable pub lineBound : Kind → ℕ → ℕ
 lineBound κ a = sum (κ .side) (λ q. κ .lineWeight q * 2048 * natAbs (κ .derivative q a)) + cond (eqb a (lastPlace κ)) (κ .edgeFactor * 1024) 0 + cond (eqb a 0) (κ .edgeFactor * 1024) 0
 
 -- what a kind of element must have for the sizes below
-pub record Tame (κ : Kind) : Type 0 where
+pub record BoundedKind (κ : Kind) : Type 0 where
   pub some : 0 < κ .nodes
   pub place : (k : ℕ) → k < κ .nodes → (k % κ .side < κ .side) × (k / κ .side < κ .side)
   pub share : (q : ℕ) → q < κ .side → κ .westShare q ≤ 2
@@ -48,10 +48,10 @@ cond-within : {m : ℕ} (c : Bool) (x : ℤ) → Within m x → Within (cond c m
 cond-within true x h = h
 cond-within false x h = within-pos 0
 
-module _ (κ : Kind) (tame : Tame κ) (B : ℕ) where
+module _ (κ : Kind) (bounded-kind : BoundedKind κ) (B : ℕ) where
   pub placeWind-within : (cw ce : ℤ) (q : ℕ) → q < κ .side → Within 1024 cw → Within 1024 ce → Within 2048 (placeWind κ cw ce q)
   unfolding placeWind
-  placeWind-within cw ce q l h k = within-le (within-add (within-mul (within-pos (κ .westShare q)) h) (within-mul (within-pos (2 - κ .westShare q)) k)) (omega (arith, tame .share q l))
+  placeWind-within cw ce q l h k = within-le (within-add (within-mul (within-pos (κ .westShare q)) h) (within-mul (within-pos (2 - κ .westShare q)) k)) (omega (arith, bounded-kind .share q l))
 
   cond-mul : (c : Bool) (x : ℕ) → cond c (x * B) 0 ≡ cond c x 0 * B
   cond-mul true x = refl
@@ -93,7 +93,7 @@ shares a b B = omega (arith, x, y, z)
     z : 7 * B * (8192 * (a * b)) ≡ 7 * (8192 * (a * (b * B)))
     z = mul-assoc 7 B (8192 * (a * b)) ∙ ap (λ n. 7 * n) (mul-left-comm B 8192 (a * b) ∙ ap (λ n. 8192 * n) (mul-comm B (a * b) ∙ mul-assoc a b B))
 
-module _ (κ : Kind) (tame : Tame κ) (g : Shape) (hx : 0 < g .nx) (hy : 0 < g .ny) (c : ℕ → ℤ) (calm : (f : ℕ) → f < faces g → Within 1024 (c f)) where
+module _ (κ : Kind) (bounded-kind : BoundedKind κ) (g : Shape) (hx : 0 < g .nx) (hy : 0 < g .ny) (c : ℕ → ℤ) (wind-range : (f : ℕ) → f < faces g → Within 1024 (c f)) where
   upwind-within : (B : ℕ) (φ : ℕ → ℕ → ℤ) → ((e k : ℕ) → Within B (φ e k)) → (f r : ℕ) → Within B (upwind κ g c φ f r)
   unfolding upwind
   upwind-within B φ h f r = cond-ind (nonNeg (c f)) _ _ (Within B) (λ _. h _ _) (λ _. h _ _)
@@ -105,19 +105,19 @@ module _ (κ : Kind) (tame : Tame κ) (g : Shape) (hx : 0 < g .nx) (hy : 0 < g .
       let a = k % κ .side in
       let b = k / κ .side in
       let ω = κ .lineWeight in
-      let ha : a < κ .side = tame .place k hk .0 in
-      let hb : b < κ .side = tame .place k hk .1 in
+      let ha : a < κ .side = bounded-kind .place k hk .0 in
+      let hb : b < κ .side = bounded-kind .place k hk .1 in
       let w = west g e in
       let s = south g e in
       let wl = west-lt g hx hy e he in
       let sl = south-lt g hx hy e he in
-      let x : Within (lineBound κ a * B) (alongX κ g c φ e a b) = advection-within κ tame B (λ q. φ e (node κ q b)) (c w) (c e) (upwind κ g c φ w b) (upwind κ g c φ e b) a
-      (λ q _. h e (node κ q b)) (calm w (omega (arith, wl))) (calm e (omega arith)) (upwind-within B φ h w b) (upwind-within B φ h e b) in
-      let y : Within (lineBound κ b * B) (alongY κ g c φ e a b) = advection-within κ tame B (λ q. φ e (node κ a q)) (c (northFace g s)) (c (northFace g e)) (upwind κ g c φ (northFace g s) a) (upwind κ g c φ (northFace g e) a) b
-      (λ q _. h e (node κ a q)) (calm (northFace g s) (omega (arith, sl))) (calm (northFace g e) (omega arith)) (upwind-within B φ h (northFace g s) a) (upwind-within B φ h (northFace g e) a) in
-      let dx : ω b * (lineBound κ a * B) ≤ ω b * (28672 * ω a * B) = mul-le-mul-left (ω b) (mul-le-mul-right B (tame .line a ha)) in
-      let dy : ω a * (lineBound κ b * B) ≤ ω a * (28672 * ω b * B) = mul-le-mul-left (ω a) (mul-le-mul-right B (tame .line b hb)) in
-      let above : 0 < ω a * ω b = mul-le-mul (tame .above a ha) (tame .above b hb) in
+      let x : Within (lineBound κ a * B) (alongX κ g c φ e a b) = advection-within κ bounded-kind B (λ q. φ e (node κ q b)) (c w) (c e) (upwind κ g c φ w b) (upwind κ g c φ e b) a
+      (λ q _. h e (node κ q b)) (wind-range w (omega (arith, wl))) (wind-range e (omega arith)) (upwind-within B φ h w b) (upwind-within B φ h e b) in
+      let y : Within (lineBound κ b * B) (alongY κ g c φ e a b) = advection-within κ bounded-kind B (λ q. φ e (node κ a q)) (c (northFace g s)) (c (northFace g e)) (upwind κ g c φ (northFace g s) a) (upwind κ g c φ (northFace g e) a) b
+      (λ q _. h e (node κ a q)) (wind-range (northFace g s) (omega (arith, sl))) (wind-range (northFace g e) (omega arith)) (upwind-within B φ h (northFace g s) a) (upwind-within B φ h (northFace g e) a) in
+      let dx : ω b * (lineBound κ a * B) ≤ ω b * (28672 * ω a * B) = mul-le-mul-left (ω b) (mul-le-mul-right B (bounded-kind .line a ha)) in
+      let dy : ω a * (lineBound κ b * B) ≤ ω a * (28672 * ω b * B) = mul-le-mul-left (ω a) (mul-le-mul-right B (bounded-kind .line b hb)) in
+      let above : 0 < ω a * ω b = mul-le-mul (bounded-kind .above a ha) (bounded-kind .above b hb) in
       within-floor _ (8192 * (ω a * ω b)) (7 * B) (omega arith)
       (within-le (within-add (within-mul (within-pos (ω b)) x) (within-mul (within-pos (ω a)) y)) (omega (arith, dx, dy, shares (ω a) (ω b) B)))
 
@@ -125,7 +125,7 @@ module _ (κ : Kind) (tame : Tame κ) (g : Shape) (hx : 0 < g .nx) (hy : 0 < g .
   tabulated-within : (b : ℕ) (f : ℕ → ℕ → ℤ) → ((e k : ℕ) → e < elements g → k < κ .nodes → Within b (f e k)) → (e k : ℕ) → Within b (tabulated κ (elements g) f e k)
   unfolding tabulated
   tabulated-within b f h e k = table-all (Within b) (elements g * κ .nodes) (λ i. f (i / κ .nodes) (i % κ .nodes)) (pos 0) (within-le (within-pos 0) (omega arith))
-      (λ i l. h (i / κ .nodes) (i % κ .nodes) (div-lt-iff-lt-mul (tame .some) .1 l) (mod-lt i (tame .some))) (e * κ .nodes + k)
+      (λ i l. h (i / κ .nodes) (i % κ .nodes) (div-lt-iff-lt-mul (bounded-kind .some) .1 l) (mod-lt i (bounded-kind .some))) (e * κ .nodes + k)
 
   tendencies-within : (B : ℕ) (φ : ℕ → ℕ → ℤ) → ((e k : ℕ) → Within B (φ e k)) → (e k : ℕ) → Within (7 * B) (tabulated κ (elements g) (tendency κ g c φ) e k)
   tendencies-within B φ h = tabulated-within (7 * B) (tendency κ g c φ) (λ e k he hk. tendency-within B φ h e k he hk)
@@ -169,16 +169,16 @@ module _ (κ : Kind) (tame : Tame κ) (g : Shape) (hx : 0 < g .nx) (hy : 0 < g .
     unfolding faceSum
     faceSum-within f = within-le (within-sum (κ .side) _ (λ r. κ .lineWeight r * (77 * B)) (λ r _. within-mul (within-pos (κ .lineWeight r)) (within-le
         (within-add (within-add (upwind-within B (s .φ0) φ0-within f r) (within-mul (within-pos 4) (upwind-within (17 * B) (s .φ2) φ2-within f r))) (upwind-within (8 * B) (s .φ1) φ1-within f r)) (omega arith))))
-        (omega (arith, sum-mul-right (κ .side) (77 * B) (κ .lineWeight), mul-le-mul-right (77 * B) (tame .face)))
+        (omega (arith, sum-mul-right (κ .side) (77 * B) (κ .lineWeight), mul-le-mul-right (77 * B) (bounded-kind .face)))
 
     pub flux-within : (f : ℕ) → f < faces g → Within (116 * B) (flux κ g c s f)
     unfolding flux fluxOf
-    flux-within f h = within-trunc-by _ (κ .faceDivisor) (116 * B) (within-le (within-mul (calm f h) (faceSum-within f)) (omega (arith, mul-le-mul-left (116 * B) (tame .divisor))))
+    flux-within f h = within-trunc-by _ (κ .faceDivisor) (116 * B) (within-le (within-mul (wind-range f h) (faceSum-within f)) (omega (arith, mul-le-mul-left (116 * B) (bounded-kind .divisor))))
 
 -- ---- the quadratic element is such a kind: its factors are tested by computation
-pub quadratic-tame : Tame quadratic
+pub quadratic-bounded : BoundedKind quadratic
 unfolding quadratic lineBound sum all
-quadratic-tame = record {
+quadratic-bounded = record {
   some = omega arith;
   place = λ k h. (mod-lt k (omega arith), omega arith);
   share = λ q h. leb→le _ 2 (all-at 3 (λ q. leb (quadratic .westShare q) 2) tt q h);

@@ -105,13 +105,13 @@ module _ (κ : Kind) (g : Shape) (hx : 0 < g .nx) (hy : 0 < g .ny) (c : ℕ → 
       (remainder-closed κ (s .ψ e) (goal e) hw)
 
   -- the ledger, going through the report, agrees
-  pub books-after : (e : ℕ) → e < elements g → carried g r (faces g) (λ e. pos (mass κ p e)) e ≡ pos (mass κ after e)
-  books-after e h = carried-sum g r (λ e. pos (mass κ p e)) (faces g) e ∙ target-is g hx hy (mass κ p) r e h
+  pub entries-after : (e : ℕ) → e < elements g → carried g r (faces g) (λ e. pos (mass κ p e)) e ≡ pos (mass κ after e)
+  entries-after e h = carried-sum g r (λ e. pos (mass κ p e)) (faces g) e ∙ target-is g hx hy (mass κ p) r e h
       ∙ sym (pos-positive (target g (mass κ p) r e) (goal-above e h)) ∙ ap pos (sym (mass-after e h))
 
   -- and a step keeps the total
   pub total-after : total κ g after ≡ total κ g p
-  total-after = pos-injective (total-by κ g after (carried g r (faces g) (λ e. pos (mass κ p e))) books-after
+  total-after = pos-injective (total-by κ g after (carried g r (faces g) (λ e. pos (mass κ p e))) entries-after
       ∙ carried-keeps g hx hy r (λ e. pos (mass κ p e)) (faces g) (le-refl (faces g)) ∙ total-pos κ g p)
 
   pub good-after : 0 < weightSum κ → total κ g p ≤ limit → Good κ g after

@@ -29,6 +29,11 @@ unfoldable pub windSound : Shape → List ℤ → Bool
 unfolding all
 windSound g w = all (faces g) (λ f. windInRange (windAt w f))
 
+-- zeros over the winds of the shape, as Fresh writes them; surplus stays
+unfoldable pub zeroWind : Shape → List ℤ → List ℤ
+unfolding overwrite
+zeroWind g wind = overwrite 0 (replicate (faces g) (pos 0)) wind
+
 -- ---- calls on a tracer
 -- An operation on one tracer. A step also takes what it is lent beside the field (A).
 pub data Operation (A : Type 0) : Type 0 where
@@ -51,11 +56,6 @@ lengthsLent wind report work = record { wind = wind; reportLength = report; work
 
 abbrev pub lent : List ℤ → List ℤ → List ℤ → Lent
 lent wind report work = lengthsLent wind (length report) (length work)
-
--- a wind of zeros
-unfoldable pub zeroWind : Shape → List ℤ → List ℤ
-unfolding overwrite
-zeroWind g wind = overwrite 0 (replicate (faces g) (pos 0)) wind
 
 -- what a call on a tracer answers, with the report where it is a step, and the field after it
 pub record Called : Type 0 where
@@ -132,6 +132,10 @@ module _ (κ : Kind) (g : Shape) where
       let a = answer (check 2 (admitted g) ∷ check 4 (leb (fieldLength κ g) (length field) && lentEnough op) ∷ checks op (ltb s (g .tracers)) p) (d .report) in
       record { reply = a; field = after a (withPart κ g s (d .part) field) field }
 
+  -- a step's call on its buffers: field, wind, report and work
+  abbrev pub stepCall : ℕ → List ℕ → List ℤ → List ℤ → List ℤ → Called
+  stepCall s field wind report work = call s (step (lent wind report work)) field
+
   -- "Readings: an element's M; a smoke's total."
   unfoldable pub massReading : ℕ → ℕ → ℕ → List ℕ → Answer ℕ
   unfolding answer admitted fieldLength soundIfThere part mass
@@ -153,10 +157,12 @@ module _ (κ : Kind) (g : Shape) where
   unfolding answer admitted fieldLength
   freshReply field wind = answer (check 2 (admitted g) ∷ check 4 (leb (fieldLength κ g) (length field) && leb (faces g) (length wind)) ∷ []) tt
 
+  -- zeros over the numbers of the shape; surplus stays
   unfoldable pub zeroField : List ℕ → List ℕ
   unfolding overwrite fieldLength
   zeroField field = overwrite 0 (replicate (fieldLength κ g) 0) field
 
+  -- field and wind after it
   unfoldable pub freshField : List ℕ → List ℤ → List ℕ
   unfolding freshReply zeroField after
   freshField field wind = after (freshReply field wind) (zeroField field) field
@@ -183,6 +189,7 @@ module _ (g : Shape) where
   windReply f wind =
       answer (check 2 (admitted g) ∷ check 4 (leb (faces g) (length wind)) ∷ check 5 (windInRange (f .wind)) ∷ check 8 (onGrid g (f .i) (f .j)) ∷ []) tt
 
+  -- the winds after it
   unfoldable pub windAfter : Face → List ℤ → List ℤ
   unfolding windReply after
   windAfter f wind = after (windReply f wind) (set wind (faceIndex g (f .way) (f .i) (f .j)) (f .wind)) wind

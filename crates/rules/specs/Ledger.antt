@@ -33,4 +33,5 @@ entry κ g (load numbers) (accepted r) held e = pos (weighted κ (loadedValue κ
 -- "An accepted emission of q adds q to its element of its smoke; an accepted withdrawal of q takes q off."
 entry κ g (emission i j q) (accepted r) held e = held e +ℤ only (eqb (element g i j) e) (pos q)
 entry κ g (withdrawal i j q) (accepted r) held e = held e -ℤ only (eqb (element g i j) e) (pos q)
+-- "An accepted step goes through all faces": `carried` over its report
 entry κ g (step l) (accepted r) held e = carried g (λ f. getD r f (pos 0)) (faces g) held e

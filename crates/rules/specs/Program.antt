@@ -25,6 +25,7 @@ decimalBy (suc more) n = cond (ltb n 10) ((48 + n) ∷ []) (decimalBy more (n / 
 abbrev pub decimal : ℕ → List ℕ
 decimal n = decimalBy 19 n
 
+-- a minus sign, 45, before a number below 0
 unfoldable pub signed : ℤ → List ℕ
 unfolding decimalBy
 signed (pos n) = decimal n

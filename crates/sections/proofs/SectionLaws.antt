@@ -8,16 +8,17 @@ use native.Mathlib.Numerals.{add-one}
 use native.Mathlib.Omega.{arith}
 use borrow.Author.Tests.{lt-ltb, le-ltb}
 use lib.IntN.{ℤ, pos, negsuc, _-ℤ_}
-use lib.ListN.{length, set, take, drop}
+use lib.ListN.{length, getD, set, take, drop}
 use lib.Seq.{sets, sets-eq, drop-drop}
 use lib.Signed.{ltZ}
 use mir.Syntax.{w16}
 use mir.Val.{SFits, toZ, ofZ}
 use mir.Facts.{toZ-ofZ, toZ-pos}
 use Rattle.whole.specs.Table.{blocks, overwrite}
-use Rattle.whole.proofs.TableLaws.{length-blocks, fill-block}
+use Rattle.whole.proofs.TableLaws.{getD-table, length-blocks, fill-block}
 use Rattle.whole.proofs.OverwriteLaws.{front-is}
-use Rattle.rules.specs.FieldFile.{bits16, bytes32, bytes16, number16, byteAt}
+use Rattle.rules.specs.FieldFile.{bits16, bytes32, bytes16, number32, number16, byteAt}
+use Rattle.sections.specs.Numbers.{numbersOf}
 
 -- stores one after the other are a list written over another
 stored : (l ys : List ℕ) (at : ℕ) → at + length ys ≤ length l → sets l at ys ≡ overwrite at ys l
@@ -99,3 +100,8 @@ module _ (w : ℕ) (f : ℕ → List ℕ) (each : (i : ℕ) → length (f i) ≡
 
   pub written : (n : ℕ) (l : List ℕ) → blocks n f ++ drop (n * w) l ≡ overwrite 0 (blocks n f) l
   written n l = ap (λ k. blocks n f ++ drop k l) (sym (length-blocks w f each n)) ∙ sym (front-is (blocks n f) l)
+
+-- ---- a number of a tracer's section, by its bytes
+pub number-at : (section : List ℕ) (n i : ℕ) → i < n → number32 section (4 * i) ≡ getD (numbersOf section n) i 0
+unfolding numbersOf
+number-at section n i h = sym (getD-table n (λ i. number32 section (4 * i)) i 0 h)

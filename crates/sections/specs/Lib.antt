@@ -1,2 +1,2 @@
--- What the leaves of file reading answer, beside document 01's own definitions.
+-- The numbers of a section.
 pub mod Numbers

@@ -132,7 +132,7 @@ pub fn winds_sound(section: &[u8], n: usize) -> bool
     ensures { λ r. ⌜ r ≡ all n (λ f. windInRange (number16 (now (section .entry)) (2 * f))) ⌝ }
 {
     for f in 0..n {
-        if !field::places::wind_in_range(number16(section, 2 * f)) {
+        if !places::wind_in_range(number16(section, 2 * f)) {
             return false;
         }
     }

@@ -3,11 +3,11 @@ ghost use mathlib.Core.Path.{_≡_};
 ghost use Prim.Native.Nat.{_*_};
 ghost use lib.ListN.{length};
 ghost use Rattle.rules.specs.Field.{quadratic, tracerLength, sound};
-ghost use Rattle.field.specs.Places.{Sized};
+ghost use Rattle.places.specs.Places.{Sized};
 ghost use Rattle.sections.specs.Numbers.{numbersOf};
-use field::element::WEIGHTS;
-use field::search::LIMIT;
+use parts::element::WEIGHTS;
 use rules::Shape;
+use searches::LIMIT;
 
 // A leaf: whether no remainder of a tracer's section is above 35 and the total is not above the limit. "The search by rows,
 // elements and numbers ends at the first break."

@@ -14,9 +14,9 @@ use Rattle.whole.proofs.TableLaws.{table-all}
 use Rattle.rules.specs.declared.Shape.{Shape}
 use Rattle.rules.specs.Stages.{tendency}
 use Rattle.rules.specs.Calls.{windAt}
-use Rattle.rules.proofs.StageBounds.{quadratic-tame, tendency-within}
+use Rattle.rules.proofs.StageBounds.{quadratic-bounded, tendency-within}
 use Rattle.grid.specs.Place.{Placed}
-use Rattle.upwind.specs.Upwind.{asStage, Calm}
+use Rattle.upwind.specs.Upwind.{asStage, WindsInRange}
 use Rattle.rules.specs.Field.{quadratic, cell, elementLength}
 use Rattle.whole.proofs.OverwriteLaws.{part-at, part-room}
 use Rattle.whole.specs.Bound.{Within, AllWithin, floorDiv}
@@ -61,9 +61,9 @@ pub three-sections : (l m : ℕ) → m < 3 → m * l + l ≤ 3 * l
 three-sections l m h = part-room l {s = m} {n = 3} h
 
 -- the tendencies of a stage, in a table
-pub tendencies-small : (g : Shape) (wind : List ℤ) (l : List ℤ) (e : ℕ) → Placed g e → Calm g wind → AllWithin 1700000000 l → AllWithin 11900000000 (table 9 (tendency quadratic g (windAt wind) (asStage l) e))
+pub tendencies-small : (g : Shape) (wind : List ℤ) (l : List ℤ) (e : ℕ) → Placed g e → WindsInRange g wind → AllWithin 1700000000 l → AllWithin 11900000000 (table 9 (tendency quadratic g (windAt wind) (asStage l) e))
 unfolding quadratic
 tendencies-small g wind l e p c h = record {
   all = table-all (Within 11900000000) 9 (tendency quadratic g (windAt wind) (asStage l) e) (pos 0) (within-le (within-pos 0) (omega arith))
-      (λ k q. tendency-within quadratic quadratic-tame g (p .fine .nx-above) (p .fine .ny-above) (windAt wind) (c .small) 1700000000 (asStage l) (λ e k. h .all (e * 9 + k)) e k (p .inside) q);
+      (λ k q. tendency-within quadratic quadratic-bounded g (p .small-grid .nx-above) (p .small-grid .ny-above) (windAt wind) (c .small) 1700000000 (asStage l) (λ e k. h .all (e * 9 + k)) e k (p .inside) q);
 }

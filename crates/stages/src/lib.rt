@@ -9,8 +9,8 @@ ghost use Rattle.whole.specs.Bound.{Within, Are, AllWithin, floorDiv};
 ghost use Rattle.whole.specs.Written.{Written};
 ghost use Rattle.rules.specs.Field.{elements};
 ghost use Rattle.rules.specs.Calls.{windAt};
-ghost use Rattle.grid.specs.Place.{Fine};
-ghost use Rattle.upwind.specs.Upwind.{Calm};
+ghost use Rattle.grid.specs.Place.{SmallGrid};
+ghost use Rattle.upwind.specs.Upwind.{WindsInRange};
 ghost use Rattle.stages.specs.Advance.{section, factor, divisor, Element, elementSums, elementValues, storedValue, Ready, gridSums, gridValues};
 use rules::Shape;
 
@@ -57,8 +57,8 @@ fn advance_element(
 
 // From a stage to the next one: every element's tendencies, sums and values.
 pub fn advance(work: &mut [i64], wind: &[i16], shape: Shape, stage: usize)
-    requires { ⌜ Fine shape ⌝ }
-    requires { ⌜ Calm shape (now wind) ⌝ }
+    requires { ⌜ SmallGrid shape ⌝ }
+    requires { ⌜ WindsInRange shape (now wind) ⌝ }
     requires { ⌜ stage < 3 ⌝ }
     requires { ⌜ Ready shape stage (now work) ⌝ }
     ensures { λ _. ⌜ Written ((stage + 1) * section shape) (4 * section shape) (section shape) (gridValues shape (windAt (now (wind .entry))) stage (now (work .entry))) (gridSums shape (windAt (now (wind .entry))) stage (now (work .entry))) (now (work .entry)) (now (work .exit)) ⌝ }
@@ -95,7 +95,7 @@ fn start_element(work: &mut [i64], numbers: &[u32], to: usize, sums: usize)
 
 // Stage 0 of a tracer's part, and zero sums.
 pub fn start(work: &mut [i64], part: &[u32], shape: Shape)
-    requires { ⌜ Fine shape ⌝ }
+    requires { ⌜ SmallGrid shape ⌝ }
     requires { ⌜ length (now part) ≡ elements shape * 10 ⌝ }
     requires { ⌜ 5 * section shape ≤ length (now work) ⌝ }
     ensures { λ _. ⌜ Written 0 (4 * section shape) (section shape) (storedValue (now (part .entry))) (λ _. pos 0) (now (work .entry)) (now (work .exit)) ⌝ }

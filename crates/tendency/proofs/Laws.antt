@@ -18,7 +18,7 @@ use Rattle.whole.proofs.TableLaws.{length-table, getD-table, table-all, table-c
 use Rattle.whole.proofs.Sizes.{peak-at}
 use Rattle.rules.specs.Field.{quadratic}
 use Rattle.rules.specs.Stages.{placeWind, advection}
-use Rattle.rules.proofs.StageBounds.{weights, weight-is, quadratic-tame, placeWind-within, lineBound, advection-within}
+use Rattle.rules.proofs.StageBounds.{weights, weight-is, quadratic-bounded, placeWind-within, lineBound, advection-within}
 use Rattle.tendency.specs.Line.{weighedWind, alongLine, withEnds, lineAt, lineNodes, localTendency}
 
 -- ---- the code's tables
@@ -52,7 +52,7 @@ pub weighedWind-within : (cw ce : ℤ) → Within 1024 cw → Within 1024 ce →
 unfolding quadratic all
 weighedWind-within cw ce h k = record {
   all = table-all (Within 8192) 3 (weighedWind cw ce) (pos 0) (within-le (within-pos 0) (omega arith))
-      (λ q l. within-le (within-mul (within-pos (quadratic .lineWeight q)) (placeWind-within quadratic quadratic-tame 0 cw ce q l h k)) (omega (arith, leb→le (quadratic .lineWeight q) 4 (all-at 3 (λ q. leb (quadratic .lineWeight q) 4) tt q l))));
+      (λ q l. within-le (within-mul (within-pos (quadratic .lineWeight q)) (placeWind-within quadratic quadratic-bounded 0 cw ce q l h k)) (omega (arith, leb→le (quadratic .lineWeight q) 4 (all-at 3 (λ q. leb (quadratic .lineWeight q) 4) tt q l))));
 }
 
 -- one term of the sum along a line
@@ -113,7 +113,7 @@ nodes-within v cw ce u side step stride hv hw he hu = record { all = table-all (
     each : (k : ℕ) → k < 9 → Within 194969600000000 (lineNodes v cw ce u side step stride k)
     each k h =
         let a : k % 3 < 3 = mod-lt k (omega arith) in
-        within-le (advection-within quadratic quadratic-tame 1700000000 (λ q. at v (step * (k / 3) + stride * q)) cw ce (at u (side + k / 3)) (at u (side + 3 + k / 3)) (k % 3)
+        within-le (advection-within quadratic quadratic-bounded 1700000000 (λ q. at v (step * (k / 3) + stride * q)) cw ce (at u (side + k / 3)) (at u (side + 3 + k / 3)) (k % 3)
         (λ q _. hv .all _) hw he (hu .all _) (hu .all _))
         (omega (arith, leb→le (lineBound quadratic (k % 3)) 114688 (all-at 3 (λ a. leb (lineBound quadratic a) 114688) tt (k % 3) a)))
 

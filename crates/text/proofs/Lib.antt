@@ -1,4 +1,3 @@
--- Laws that the proofs of the lines cite.
+-- Laws of bytes that are added to a buffer, and of numbers in base ten.
 pub mod AddedLaws
 pub mod DecimalLaws
-pub mod RowLaws

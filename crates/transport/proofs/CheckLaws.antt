@@ -15,11 +15,10 @@ use Rattle.rules.specs.Answers.{Answer, accepted, refused, Check, check, answer
 use Rattle.rules.specs.Field.{quadratic, admitted, faces, workNeeded, fieldLength, tracerLength, part, withPart, total}
 use Rattle.rules.specs.Step.{tracerStep}
 use Rattle.rules.specs.Calls.{Operation, step, Lent, lengthsLent, windInRange, windAt, windSound, lentEnough, soundIfThere, checks, done, call, totalReading, reportAfter, WorkAfter}
-use Rattle.rules.proofs.AnswerLaws.{Passed, answer-ind}
+use Rattle.rules.proofs.AnswerLaws.{Passed, answer-ind, prefix-refused, prefix-accepted}
 use Rattle.rules.proofs.FieldLaws.{Ranges, ranges, total-small, sound-there}
-use Rattle.field.proofs.CheckLaws.{prefix-refused, prefix-accepted}
-use Rattle.grid.specs.Place.{Fine}
-use Rattle.upwind.specs.Upwind.{Calm}
+use Rattle.grid.specs.Place.{SmallGrid}
+use Rattle.upwind.specs.Upwind.{WindsInRange}
 
 -- ---- the call's answer, by its tests
 module _ (g : Shape) (s : ℕ) (f : List ℕ) (wind : List ℤ) (rl wl : ℕ) where
@@ -73,19 +72,19 @@ module _ (g : Shape) (s : ℕ) (f : List ℕ) (wind : List ℤ) (rl wl : ℕ) wh
 
   -- what an accepted step has shown
   pub record Stepping : Type 0 where
-    pub fine : Fine g
+    pub small-grid : SmallGrid g
     pub shape : Ranges g
     pub room : fieldLength quadratic g ≤ length f
     pub tracer : s < g .tracers
-    pub calm : Calm g wind
+    pub wind-range : WindsInRange g wind
     pub reports : faces g ≤ rl
     pub works : workNeeded g ≤ wl
-    pub light : total quadratic g p ≤ 100000000
+    pub within-limit : total quadratic g p ≤ 100000000
     pub answers : call quadratic g s op f .reply ≡ accepted r
 
-  winds-calm : faces g ≤ length wind → T (windSound g wind) → Calm g wind
+  winds-ranged : faces g ≤ length wind → T (windSound g wind) → WindsInRange g wind
   unfolding windSound
-  winds-calm long t = record { long = long; small = λ f l. record { within = leb→le (natAbs (windAt wind f)) 1024 (all-at (faces g) (λ f. windInRange (windAt wind f)) t f l) } }
+  winds-ranged long t = record { long = long; small = λ f l. record { within = leb→le (natAbs (windAt wind f)) 1024 (all-at (faces g) (λ f. windInRange (windAt wind f)) t f l) } }
 
   abbrev all-checks : List Check
   all-checks = check 2 (admitted g) ∷ check 4 enough ∷ check 5 (windSound g wind) ∷ last-two
@@ -101,14 +100,14 @@ module _ (g : Shape) (s : ℕ) (f : List ℕ) (wind : List ℤ) (rl wl : ℕ) wh
       let w = both-yes (leb (faces g) (length wind)) _ (b .1) in
       let q = both-yes (leb (faces g) rl) (leb (workNeeded g) wl) (w .1) in
       record {
-        fine = record { nx-above = shape .nx-above; nx-small = shape .nx-small; ny-above = shape .ny-above; ny-small = shape .ny-small };
+        small-grid = record { nx-above = shape .nx-above; nx-small = shape .nx-small; ny-above = shape .ny-above; ny-small = shape .ny-small };
         shape = shape;
         room = leb→le _ _ (b .0);
         tracer = ltb→lt _ _ (c .1 .1 .1 .1 .0);
-        calm = winds-calm (leb→le _ _ (w .0)) (c .1 .1 .0);
+        wind-range = winds-ranged (leb→le _ _ (w .0)) (c .1 .1 .0);
         reports = leb→le _ _ (q .0);
         works = leb→le _ _ (q .1);
-        light = total-small quadratic g p (sound-there quadratic g p (ltb s (g .tracers)) (c .1 .1 .1 .1 .0) (c .1 .1 .1 .0));
+        within-limit = total-small quadratic g p (sound-there quadratic g p (ltb s (g .tracers)) (c .1 .1 .1 .1 .0) (c .1 .1 .1 .0));
         answers = e;
       }
 

@@ -5,8 +5,8 @@ ghost use mathlib.Core.Bool.{_&&_};
 ghost use lib.Dec.{leb};
 ghost use Rattle.rules.specs.Answers.{outcome, plain};
 ghost use Rattle.rules.specs.Field.{quadratic, faces, workNeeded, fieldLength};
-ghost use Rattle.rules.specs.Calls.{step, lengthsLent, lent, call, reportAfter, WorkAfter};
-ghost use Rattle.field.specs.Places.{Sized};
+ghost use Rattle.rules.specs.Calls.{step, lengthsLent, call, stepCall, reportAfter, WorkAfter};
+ghost use Rattle.places.specs.Places.{Sized};
 use rules::Outcome;
 use rules::Reading;
 use rules::Refusal;
@@ -19,17 +19,17 @@ fn lent_enough(field: usize, wind: usize, report: usize, work: usize, shape: Sha
     requires { ⌜ Sized shape ⌝ }
     ensures { λ r. ⌜ r ≡ (leb (fieldLength quadratic shape) field && (leb (faces shape) wind && (leb (faces shape) report && leb (workNeeded shape) work))) ⌝ }
 {
-    if field < field::places::field_length(shape) {
+    if field < places::field_length(shape) {
         return false;
     }
-    let faces = field::places::faces(shape);
+    let faces = places::faces(shape);
     if wind < faces {
         return false;
     }
     if report < faces {
         return false;
     }
-    64 * field::places::elements(shape) <= work
+    64 * places::elements(shape) <= work
 }
 
 // The checks of a step, for a report and a work of these lengths: 2, 4, 5, and then 6 and 7 as a reading of the total meets them.
@@ -43,13 +43,13 @@ fn check(
 ) -> Outcome
     ensures { λ r. ⌜ outcome r ≡ plain (call quadratic shape tracer (step (lengthsLent (now (wind .entry)) report work)) (now (field .entry)) .reply) ⌝ }
 {
-    if !field::places::admitted(shape) {
+    if !places::admitted(shape) {
         return Outcome::Refused(Refusal::BadShape);
     }
     if !lent_enough(field.len(), wind.len(), report, work, shape) {
         return Outcome::Refused(Refusal::ShortBuffer);
     }
-    if !field::search::winds_sound(wind, shape) {
+    if !searches::winds_sound(wind, shape) {
         return Outcome::Refused(Refusal::WindOutOfRange);
     }
     let found = field::total(field, shape, tracer);
@@ -68,17 +68,17 @@ pub fn step(
     shape: Shape,
     tracer: usize,
 ) -> Outcome
-    ensures { λ r. ⌜ outcome r ≡ plain (call quadratic shape tracer (step (lent (now (wind .entry)) (now (report .entry)) (now (work .entry)))) (now (field .entry)) .reply) ⌝ }
-    ensures { λ _. ⌜ now (field .exit) ≡ call quadratic shape tracer (step (lent (now (wind .entry)) (now (report .entry)) (now (work .entry)))) (now (field .entry)) .field ⌝ }
-    ensures { λ _. ⌜ now (report .exit) ≡ reportAfter (call quadratic shape tracer (step (lent (now (wind .entry)) (now (report .entry)) (now (work .entry)))) (now (field .entry)) .reply) (now (report .entry)) ⌝ }
-    ensures { λ _. ⌜ WorkAfter (call quadratic shape tracer (step (lent (now (wind .entry)) (now (report .entry)) (now (work .entry)))) (now (field .entry)) .reply) (now (work .entry)) (now (work .exit)) ⌝ }
+    ensures { λ r. ⌜ outcome r ≡ plain (stepCall quadratic shape tracer (now (field .entry)) (now (wind .entry)) (now (report .entry)) (now (work .entry)) .reply) ⌝ }
+    ensures { λ _. ⌜ now (field .exit) ≡ stepCall quadratic shape tracer (now (field .entry)) (now (wind .entry)) (now (report .entry)) (now (work .entry)) .field ⌝ }
+    ensures { λ _. ⌜ now (report .exit) ≡ reportAfter (stepCall quadratic shape tracer (now (field .entry)) (now (wind .entry)) (now (report .entry)) (now (work .entry)) .reply) (now (report .entry)) ⌝ }
+    ensures { λ _. ⌜ WorkAfter (stepCall quadratic shape tracer (now (field .entry)) (now (wind .entry)) (now (report .entry)) (now (work .entry)) .reply) (now (work .entry)) (now (work .exit)) ⌝ }
 {
     let checked = check(field, wind, report.len(), work.len(), shape, tracer);
     match checked {
         Outcome::Refused(r) => Outcome::Refused(r),
         Outcome::Accepted => {
-            let start = field::places::tracer_start(shape, tracer);
-            let end = start + field::places::tracer_length(shape);
+            let start = places::tracer_start(shape, tracer);
+            let end = start + places::tracer_length(shape);
             tracer::step(&mut field[start..end], wind, report, work, shape);
             Outcome::Accepted
         }

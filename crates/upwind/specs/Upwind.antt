@@ -17,7 +17,7 @@ abbrev pub asStage : List ℤ → ℕ → ℕ → ℤ
 asStage l e k = at l (e * 9 + k)
 
 -- a wind for every face, each in its range
-pub record Calm (g : Shape) (wind : List ℤ) : Type 0 where
+pub record WindsInRange (g : Shape) (wind : List ℤ) : Type 0 where
   pub long : faces g ≤ length wind
   pub small : (f : ℕ) → f < faces g → Within 1024 (windAt wind f)
 

@@ -4,6 +4,7 @@ pub mod WholeLaws
 pub mod SumLaws
 pub mod TableLaws
 pub mod OverwriteLaws
+pub mod ListParts
 pub mod WrittenLaws
 pub mod BoundLaws
 pub mod Sizes

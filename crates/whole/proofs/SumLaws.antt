@@ -1,6 +1,6 @@
 -- Laws of sums over a number of terms.
 use mathlib.Core.Path.{_≡_, refl, sym, ap, ap₂, subst, _∙_}
-use mathlib.Core.Bool.{Bool, true, false, not}
+use mathlib.Core.Bool.{Bool, true, false, _&&_, not}
 use mathlib.Core.Logic.{_≢_}
 use Prim.Native.Nat.{ℕ, zero, suc, _+_, _*_, _≤_, _<_}
 use native.Mathlib.Nat.{mul-zero, mul-add, mul-comm, le-refl, add-zero, add-suc}
@@ -156,3 +156,9 @@ sumℤ-more n f = rw (add-one n)
 pub sum-mono : (f : ℕ → ℕ) (m n : ℕ) → m ≤ n → sum m f ≤ sum n f
 unfolding sum
 sum-mono f m n h = le-ind (λ k. sum m f ≤ sum k f) (le-refl (sum m f)) (λ k l r. omega arith) n h
+
+-- tests that are equal everywhere are passed together
+pub all-cong : (n : ℕ) (f h : ℕ → Bool) → ((i : ℕ) → i < n → f i ≡ h i) → all n f ≡ all n h
+unfolding all
+all-cong zero f h e = refl
+all-cong (suc n) f h e = ap₂ _&&_ (all-cong n f h (λ i l. e i (omega arith))) (e n (omega arith))

@@ -21,7 +21,7 @@ module _ {ℓ} {A : Type ℓ} where
   table-more n f = rw (add-one n)
 
   -- a table is blocks of one number each
-  table-blocks : (n : ℕ) (f : ℕ → A) → table n f ≡ blocks n (λ i. f i ∷ [])
+  pub table-blocks : (n : ℕ) (f : ℕ → A) → table n f ≡ blocks n (λ i. f i ∷ [])
   unfolding table blocks
   table-blocks zero f = refl
   table-blocks (suc n) f = ap (λ l. l ++ (f n ∷ [])) (table-blocks n f)

@@ -6,7 +6,7 @@ use lib.IntN.{ℤ, pos, natAbs}
 use lib.ListN.{getD}
 use lib.Signed.{quotZ, shrZ}
 
--- z / d for d above 0, rounded toward minus infinity ("Floor is toward minus infinity")
+-- z / d for d above 0, rounded toward minus infinity ("Floor is toward minus infinity"): n / d of n, and -1 - n / d of -1 - n
 abbrev pub floorDiv : ℤ → ℕ → ℤ
 floorDiv z d = shrZ z d
 

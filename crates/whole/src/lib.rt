@@ -1,4 +1,4 @@
-// Signed leaves that other crates use.
+// The signed leaf that other crates use.
 ghost use mathlib.Core.Path.{_≡_};
 ghost use lib.IntN.{pos, natAbs};
 ghost use lib.Signed.{_≤ℤ_};

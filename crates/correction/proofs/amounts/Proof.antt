@@ -52,7 +52,7 @@ loop-holds : tie.Need-loop-holds Inv-loop μ-loop
 loop-holds c = (omega arith, omega arith, written-none _ _ _ _ _)
 
 placed : (c : tie.In-loop Inv-loop μ-loop) → Placed (c .before .before .before .before .args .shape) (c .before .loop .e)
-placed c = record { fine = c .before .before .before .before .pre .0; inside = omega arith }
+placed c = record { small-grid = c .before .before .before .before .pre .0; inside = omega arith }
 
 -- the element's numbers are within the part
 ends : (c : tie.In-loop Inv-loop μ-loop) → (c .before .loop .start + 10 ≤ length (c .before .before .before .before .args .part .now)) × (c .before .loop .start + 10 ≤ 40960)
@@ -131,7 +131,7 @@ mass-made c =
 mass-small : (c : tie.After-mass Inv-loop μ-loop) → c .mass .result ≤ 100000000
 mass-small c =
     let i = c .before .before in
-    omega (arith, mass-made c, i .before .before .before .before .pre .1 .1 .0 .light (i .before .loop .e) (placed i .inside))
+    omega (arith, mass-made c, i .before .before .before .before .pre .1 .1 .0 .within-limit (i .before .loop .e) (placed i .inside))
 
 cast-work : tie.Need-cast-work Inv-loop μ-loop
 cast-work c = record { sfits = omega (arith, mass-small (c .before .before .before)) }

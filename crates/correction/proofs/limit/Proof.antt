@@ -29,7 +29,7 @@ loop-holds : tie.Need-loop-holds Inv-loop μ-loop
 loop-holds c = (omega arith, written-none _ _ _ _ _)
 
 placed : (c : tie.In-loop Inv-loop μ-loop) → Placed (c .before .before .before .args .shape) (c .before .loop .e)
-placed c = record { fine = c .before .before .before .pre .0; inside = omega arith }
+placed c = record { small-grid = c .before .before .before .pre .0; inside = omega arith }
 
 small : (c : tie.In-loop Inv-loop μ-loop) → elements (c .before .before .before .args .shape) ≤ 4096
 small c = elements-le (c .before .before .before .args .shape) (c .before .before .before .pre .0)
@@ -42,7 +42,7 @@ limited-face-requires c κs =
     let i = c .before in
     let b = i .before .before .before in
     let p = placed i in
-    (b .pre .0, (b .pre .1 .0, (omega (arith, p .inside), (p .inside, omega (arith, c .east .ensures, east-lt (b .args .shape) (p .fine .nx-above) (p .fine .ny-above) (i .before .loop .e) (p .inside))))))
+    (b .pre .0, (b .pre .1 .0, (omega (arith, p .inside), (p .inside, omega (arith, c .east .ensures, east-lt (b .args .shape) (p .small-grid .nx-above) (p .small-grid .ny-above) (i .before .loop .e) (p .inside))))))
 
 add-limited-face : tie.Need-add-limited-face Inv-loop μ-loop
 add-limited-face c = let i = c .before .before in record { fits = omega (arith, placed i .inside, small i) }
@@ -55,7 +55,7 @@ limited-face-requires-2 c κs =
     let i = c .before .before .before in
     let b = i .before .before .before in
     let p = placed i in
-    (b .pre .0, (b .pre .1 .0, (omega (arith, p .inside), (p .inside, omega (arith, c .north .ensures, north-lt (b .args .shape) (p .fine .nx-above) (p .fine .ny-above) (i .before .loop .e) (p .inside))))))
+    (b .pre .0, (b .pre .1 .0, (omega (arith, p .inside), (p .inside, omega (arith, c .north .ensures, north-lt (b .args .shape) (p .small-grid .nx-above) (p .small-grid .ny-above) (i .before .loop .e) (p .inside))))))
 
 -- the limited fluxes of a turn, which fit the report
 east-made : (c : tie.After-limited-face Inv-loop μ-loop) → Are 100000000 (c .limited-face .result) (limitedEast (c .before .before .before .before .before .args .shape) (c .before .before .before .before .before .args .work .now) (c .before .before .before .loop .e))

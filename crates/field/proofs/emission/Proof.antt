@@ -9,13 +9,13 @@ use lib.ListN.{length, take, drop}
 use Rattle.rules.specs.Answers.{accepted, reading}
 use Rattle.rules.specs.Field.{quadratic, onGrid, element, mass, part}
 use Rattle.rules.specs.Calls.{totalReading, emitted}
-use Rattle.field.specs.Places.{Inside, elementStart}
-use Rattle.field.proofs.PlaceLaws.{element-ends}
+use Rattle.places.specs.Places.{Inside, elementStart}
+use Rattle.places.proofs.PlaceLaws.{element-ends}
 use Rattle.whole.proofs.OverwriteLaws.{part-size}
 use Rattle.rules.specs.Calls.{emission, done}
 use Rattle.rules.proofs.CallLaws.{length-emitted}
 use Rattle.rules.proofs.PartLaws.{mass-le-total}
-use Rattle.field.proofs.PlaceLaws.{element-lt}
+use Rattle.places.proofs.PlaceLaws.{element-lt}
 use Rattle.field.proofs.CheckLaws.{found, inside, call-refused, call-accepted, emission-refused, emission-off-grid, emission-above, emission-accepted}
 use Rattle.field.proofs.InPlaceLaws.{mass-lent, emitted-lent, back-in-place}
 use Rattle.field.proofs.emission.Statement.{statement}

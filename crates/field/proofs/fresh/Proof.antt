@@ -8,7 +8,7 @@ use lib.IntN.{pos}
 use lib.ListN.{length, replicate}
 use Rattle.whole.specs.Table.{overwrite}
 use Rattle.rules.specs.Field.{quadratic, admitted, faces, fieldLength}
-use Rattle.field.proofs.FillLaws.{sized-of, fresh-2, fresh-4-field, fresh-4-wind, fresh-done}
+use Rattle.field.proofs.WindFreshLoad.{sized-of, fresh-2, fresh-4-field, fresh-4-wind, fresh-done}
 use Rattle.field.proofs.fresh.Statement.{statement}
 use Rattle.field.proofs.fresh.Tie as tie
 

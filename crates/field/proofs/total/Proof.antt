@@ -8,11 +8,11 @@ use borrow.Author.Tests.{not-true, not-false}
 use lib.ListN.{length, take, drop}
 use Rattle.rules.specs.Field.{quadratic, admitted, fieldLength, part}
 use Rattle.rules.proofs.FieldLaws.{ranges}
-use Rattle.field.specs.Places.{Sized}
-use Rattle.field.specs.Search.{searched}
-use Rattle.field.proofs.PlaceLaws.{sized, field-is, field-le, tracer-room}
+use Rattle.places.specs.Places.{Sized}
+use Rattle.searches.specs.Search.{searched}
+use Rattle.places.proofs.PlaceLaws.{sized, field-is, field-le, tracer-room}
 use Rattle.rules.proofs.PartLaws.{part-length}
-use Rattle.field.proofs.CheckLaws.{total-bad-shape, total-short, total-no-tracer, total-unsound, total-found}
+use Rattle.field.proofs.CheckLaws.{total-bad-shape, total-short, total-no-tracer, total-searched}
 use Rattle.field.proofs.total.Statement.{statement}
 use Rattle.field.proofs.total.Tie as tie
 
@@ -77,23 +77,11 @@ part-tracer-total-end c = omega (arith, ends c)
 tracer-total-requires : tie.Need-tracer-total-requires
 tracer-total-requires c κs = let a = c .before .before .before .before .before .before .before .before .before .before .args in (small (c .before .before .before .before .before .before .before), ap length (lent-is (c .before)) ∙ part-length quadratic (a .shape) (a .tracer) (a .field .now) (c .before .before .before .if3 .left) (room (c .before .before .before .before .before)))
 
-enum-known-found : tie.Need-enum-known-found
-enum-known-found c = search needs
-
-enum-told : tie.Need-enum-told
-enum-told c = search needs
-
 returns-4 : tie.Need-returns-4
 returns-4 c =
-    let a = c .before .before .before .before .before .before .before .before .before .before .before .before .before .before .args in
-    sym (total-found (a .shape) (a .tracer) (a .field .now) _ (shape-is (c .before .before .before .before .before .before .before .before .before .before .before)) (room (c .before .before .before .before .before .before .before .before .before)) (c .before .before .before .before .before .before .before .if3 .left)
-    (sym (ap (searched (a .shape)) (lent-is (c .before .before .before .before .before))) ∙ sym (c .before .before .before .tracer-total .ensures) ∙ c .before .found .given .1))
-
-returns-5 : tie.Need-returns-5
-returns-5 c =
-    let a = c .before .before .before .before .before .before .before .before .before .before .before .before .before .args in
-    sym (total-unsound (a .shape) (a .tracer) (a .field .now) (shape-is (c .before .before .before .before .before .before .before .before .before .before)) (room (c .before .before .before .before .before .before .before .before)) (c .before .before .before .before .before .before .if3 .left)
-    (sym (ap (searched (a .shape)) (lent-is (c .before .before .before .before))) ∙ sym (c .before .before .tracer-total .ensures) ∙ c .enum-told .given .1))
+    let a = c .before .before .before .before .before .before .before .before .before .before .before .args in
+    c .tracer-total .ensures ∙ ap (searched (a .shape)) (lent-is (c .before .before))
+    ∙ sym (total-searched (a .shape) (a .tracer) (a .field .now) (shape-is (c .before .before .before .before .before .before .before .before)) (room (c .before .before .before .before .before .before)) (c .before .before .before .before .if3 .left))
 
 pub total-spec : {M : Type 1} → statement M
-total-spec = tie.close (tie.spec admitted-requires returns field-length-requires returns-2 returns-3 tracer-start-requires tracer-length-requires add-end mul-tracer-total sub-tracer-total part-tracer-total-start part-tracer-total-end tracer-total-requires enum-known-found enum-told returns-4 returns-5)
+total-spec = tie.close (tie.spec admitted-requires returns field-length-requires returns-2 returns-3 tracer-start-requires tracer-length-requires add-end mul-tracer-total sub-tracer-total part-tracer-total-start part-tracer-total-end tracer-total-requires returns-4)

@@ -9,7 +9,7 @@ use mir.Syntax.{w16}
 use mir.Val.{toZ, ofZ}
 use Rattle.rules.specs.Field.{admitted, faces, onGrid}
 use Rattle.rules.specs.Calls.{windInRange}
-use Rattle.field.proofs.FillLaws.{sized-of, inside-of, face-lt, wind-2, wind-4, wind-5, wind-8, wind-done}
+use Rattle.field.proofs.WindFreshLoad.{sized-of, inside-of, face-lt, wind-2, wind-4, wind-5, wind-8, wind-done}
 use Rattle.field.proofs.wind.Statement.{statement}
 use Rattle.field.proofs.wind.Tie as tie
 

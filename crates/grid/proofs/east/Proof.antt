@@ -9,16 +9,16 @@ rem-if1 : tie.Need-rem-if1
 rem-if1 c = search needs
 
 add-if1 : tie.Need-add-if1
-add-if1 c = record { fits = omega (arith, mod-lt (c .args .e) (c .pre .fine .nx-above), c .pre .fine .nx-small) }
+add-if1 c = record { fits = omega (arith, mod-lt (c .args .e) (c .pre .small-grid .nx-above), c .pre .small-grid .nx-small) }
 
 add-result : tie.Need-add-result
-add-result c = record { fits = omega (arith, c .before .pre .inside, elements-le (c .before .args .shape) (c .before .pre .fine)) }
+add-result c = record { fits = omega (arith, c .before .pre .inside, elements-le (c .before .args .shape) (c .before .pre .small-grid)) }
 
 sub-result : tie.Need-sub-result
 sub-result c = let a = c .before .args in omega (arith, row-column (a .shape) (a .e) (c .before .pre), c .if1 .taken)
 
 add-result-2 : tie.Need-add-result-2
-add-result-2 c = record { fits = omega (arith, c .before .pre .inside, elements-le (c .before .args .shape) (c .before .pre .fine)) }
+add-result-2 c = record { fits = omega (arith, c .before .pre .inside, elements-le (c .before .args .shape) (c .before .pre .small-grid)) }
 
 returns : tie.Need-returns
 returns c = let a = c .before .args in east-last (a .shape) (a .e) (c .before .pre) (c .if1 .taken)

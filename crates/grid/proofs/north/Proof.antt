@@ -5,16 +5,16 @@ use Rattle.grid.proofs.north.Statement.{statement}
 use Rattle.grid.proofs.north.Tie as tie
 
 mul-n : tie.Need-mul-n
-mul-n c = record { fits = omega (arith, elements-le (c .before .args .shape) (c .before .pre .fine)) }
+mul-n c = record { fits = omega (arith, elements-le (c .before .args .shape) (c .before .pre .small-grid)) }
 
 add-if1 : tie.Need-add-if1
-add-if1 c = let b = c .before in record { fits = omega (arith, b .pre .inside, elements-le (b .args .shape) (b .pre .fine), b .pre .fine .nx-small) }
+add-if1 c = let b = c .before in record { fits = omega (arith, b .pre .inside, elements-le (b .args .shape) (b .pre .small-grid), b .pre .small-grid .nx-small) }
 
 add-result : tie.Need-add-result
-add-result c = let b = c .before .before in record { fits = omega (arith, b .pre .inside, elements-le (b .args .shape) (b .pre .fine), b .pre .fine .nx-small) }
+add-result c = let b = c .before .before in record { fits = omega (arith, b .pre .inside, elements-le (b .args .shape) (b .pre .small-grid), b .pre .small-grid .nx-small) }
 
 add-result-2 : tie.Need-add-result-2
-add-result-2 c = let b = c .before .before in record { fits = omega (arith, b .pre .inside, elements-le (b .args .shape) (b .pre .fine), b .pre .fine .nx-small) }
+add-result-2 c = let b = c .before .before in record { fits = omega (arith, b .pre .inside, elements-le (b .args .shape) (b .pre .small-grid), b .pre .small-grid .nx-small) }
 
 sub-result : tie.Need-sub-result
 sub-result c = search needs

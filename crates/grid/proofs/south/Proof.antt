@@ -4,13 +4,13 @@ use Rattle.grid.proofs.south.Statement.{statement}
 use Rattle.grid.proofs.south.Tie as tie
 
 mul-n : tie.Need-mul-n
-mul-n c = record { fits = omega (arith, elements-le (c .before .args .shape) (c .before .pre .fine)) }
+mul-n c = record { fits = omega (arith, elements-le (c .before .args .shape) (c .before .pre .small-grid)) }
 
 add-result : tie.Need-add-result
-add-result c = let b = c .before .before in record { fits = omega (arith, b .pre .inside, elements-le (b .args .shape) (b .pre .fine)) }
+add-result c = let b = c .before .before in record { fits = omega (arith, b .pre .inside, elements-le (b .args .shape) (b .pre .small-grid)) }
 
 sub-result : tie.Need-sub-result
-sub-result c = let b = c .before .before in omega (arith, b .pre .inside, c .if1 .taken, row-le (b .args .shape) (b .pre .fine))
+sub-result c = let b = c .before .before in omega (arith, b .pre .inside, c .if1 .taken, row-le (b .args .shape) (b .pre .small-grid))
 
 returns : tie.Need-returns
 returns c = let b = c .before .before in south-first (b .args .shape) (b .args .e) (b .pre) (c .if1 .taken)

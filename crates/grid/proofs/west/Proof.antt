@@ -8,10 +8,10 @@ rem-if1 : tie.Need-rem-if1
 rem-if1 c = search needs
 
 add-result : tie.Need-add-result
-add-result c = record { fits = omega (arith, c .before .pre .inside, elements-le (c .before .args .shape) (c .before .pre .fine), c .before .pre .fine .nx-small) }
+add-result c = record { fits = omega (arith, c .before .pre .inside, elements-le (c .before .args .shape) (c .before .pre .small-grid), c .before .pre .small-grid .nx-small) }
 
 sub-result : tie.Need-sub-result
-sub-result c = omega (arith, c .before .pre .fine .nx-above)
+sub-result c = omega (arith, c .before .pre .small-grid .nx-above)
 
 sub-result-2 : tie.Need-sub-result-2
 sub-result-2 c = let a = c .before .args in omega (arith, row-column (a .shape) (a .e) (c .before .pre), c .if1 .left)

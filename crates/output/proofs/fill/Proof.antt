@@ -4,7 +4,7 @@ use native.Mathlib.Omega.{arith}
 use Rattle.rules.specs.Answers.{fileAnswer}
 use Rattle.rules.specs.Field.{quadratic, admitted, faces}
 use Rattle.rules.specs.Program.{refusedLine}
-use Rattle.field_file.proofs.ReplyLaws.{read-shown}
+use Rattle.file_layout.proofs.ReplyLaws.{read-shown}
 use Rattle.output.proofs.Laws.{added-of, refusal-of}
 use Rattle.output.proofs.TextLaws.{front-added, end-le, long-printed, refused-printed, text-printed, text-is, refusal-text, text-fits, true-of}
 use borrow.Author.Needs.{needs}

@@ -1,5 +1,5 @@
 use mathlib.Core.Path.{ap, _∙_}
-use Rattle.plume_c.specs.Numbers.{code}
+use Rattle.c_numbers.specs.Numbers.{code}
 use borrow.Author.Needs.{needs}
 use Rattle.plume_c.proofs.plume_fresh.Statement.{statement}
 use Rattle.plume_c.proofs.plume_fresh.Tie as tie

@@ -1,7 +1,7 @@
 use mathlib.Core.Path.{sym, ap, subst, _∙_}
 use mir.Syntax.{w64}
 use Rattle.whole.proofs.Sizes.{read-back}
-use Rattle.plume_c.specs.Numbers.{shapeOr, SmallShape}
+use Rattle.c_numbers.specs.Numbers.{shapeOr, SmallShape}
 use Rattle.plume_c.proofs.Laws.{read-answers}
 use borrow.Author.Needs.{needs}
 use Rattle.plume_c.proofs.plume_read.Statement.{statement}

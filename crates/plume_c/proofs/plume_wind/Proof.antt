@@ -1,7 +1,7 @@
 use mathlib.Core.Path.{ap, _∙_}
 use mir.Facts.{toZ-ofZ}
 use Rattle.rules.specs.Calls.{windReply, windAfter}
-use Rattle.plume_c.specs.Numbers.{shapeOf, faceOf, code}
+use Rattle.c_numbers.specs.Numbers.{shapeOf, faceOf, code}
 use borrow.Author.Needs.{needs}
 use Rattle.plume_c.proofs.plume_wind.Statement.{statement}
 use Rattle.plume_c.proofs.plume_wind.Tie as tie

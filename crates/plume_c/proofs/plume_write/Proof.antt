@@ -1,7 +1,7 @@
 use mathlib.Core.Path.{sym, ap, subst, _∙_}
 use mir.Syntax.{w64}
 use Rattle.whole.proofs.Sizes.{read-back}
-use Rattle.plume_c.specs.Numbers.{numberOr, Small}
+use Rattle.c_numbers.specs.Numbers.{numberOr, Small}
 use Rattle.plume_c.proofs.Laws.{write-answers}
 use borrow.Author.Needs.{needs}
 use Rattle.plume_c.proofs.plume_write.Statement.{statement}

@@ -85,7 +85,7 @@ lent c =
     part-kept s l (s + l - s) (c .before .loop .inv .4) (add-sub-cancel-left s l) (omega (arith, h, b .pre .1 .1 .1 .long)) (λ i p q u v. omega arith) (λ i p q u v. omega (arith, h))
 
 placed : (c : tie.In-loop Inv-loop μ-loop) → Placed (c .before .before .before .before .args .shape) (c .before .loop .e)
-placed c = record { fine = c .before .before .before .before .pre .0; inside = omega arith }
+placed c = record { small-grid = c .before .before .before .before .pre .0; inside = omega arith }
 
 tendencies-requires : tie.Need-tendencies-requires Inv-loop μ-loop
 tendencies-requires c κs =

@@ -10,8 +10,8 @@ use Rattle.rules.specs.Answers.{plain, reading}
 use Rattle.rules.specs.Field.{quadratic, admitted, faces, fieldLength}
 use Rattle.rules.specs.Calls.{windSound}
 use Rattle.rules.proofs.FieldLaws.{ranges}
-use Rattle.field.specs.Places.{Sized}
-use Rattle.field.proofs.PlaceLaws.{sized}
+use Rattle.places.specs.Places.{Sized}
+use Rattle.places.proofs.PlaceLaws.{sized}
 use Rattle.transport.proofs.CheckLaws.{enough, step-2, step-4, step-5, step-refused, step-accepted}
 use Rattle.transport.proofs.check.Statement.{statement}
 use Rattle.transport.proofs.check.Tie as tie

@@ -1,7 +1,7 @@
 use mathlib.Core.Path.{refl}
 use borrow.Author.Tests.{lt-leb, le-leb}
 use native.Mathlib.Omega.{arith}
-use Rattle.field.proofs.PlaceLaws.{elements-le}
+use Rattle.places.proofs.PlaceLaws.{elements-le}
 use Rattle.transport.proofs.lent_enough.Statement.{statement}
 use Rattle.transport.proofs.lent_enough.Tie as tie
 

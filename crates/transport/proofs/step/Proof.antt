@@ -13,7 +13,7 @@ use Rattle.rules.proofs.PartLaws.{part-length}
 use Rattle.rules.proofs.StepLaws.{length-after}
 use Rattle.rules.specs.Stages.{stages}
 use Rattle.field.proofs.CheckLaws.{call-refused, call-accepted}
-use Rattle.field.proofs.PlaceLaws.{sized, tracer-is, field-is, field-le, tracer-room}
+use Rattle.places.proofs.PlaceLaws.{sized, tracer-is, field-is, field-le, tracer-room}
 use Rattle.transport.proofs.CheckLaws.{Stepping, stepping, plain-refused, report-refused, report-accepted, work-refused, work-accepted, part-back}
 use Rattle.transport.proofs.step.Statement.{statement}
 use Rattle.transport.proofs.step.Tie as tie
@@ -69,7 +69,7 @@ step-requires c κs =
     let t = c .before .before .before in
     let a = c .before .before .before .before .before .before .before .before .before .before .args in
     let h = facts (c .before .before .before .before .before) in
-    (h .fine, (ap length (lent-is t) ∙ part-length quadratic (a .shape) (a .tracer) (a .field .now) (h .tracer) (h .room) ∙ tracer-is (a .shape), (omega (arith, ap (total quadratic (a .shape)) (lent-is t), h .light), (h .calm, (h .reports, h .works)))))
+    (h .small-grid, (ap length (lent-is t) ∙ part-length quadratic (a .shape) (a .tracer) (a .field .now) (h .tracer) (h .room) ∙ tracer-is (a .shape), (omega (arith, ap (total quadratic (a .shape)) (lent-is t), h .within-limit), (h .wind-range, (h .reports, h .works)))))
 
 same-length : tie.Need-same-length
 same-length c = search needs
@@ -108,7 +108,7 @@ returns-2 c =
       q .0,
       (
         part-back (a .shape) (a .tracer) s (s + n - s) _ (tracerStep quadratic (a .shape) w p .part) (a .field .now) (c .before .before .before .before .before .before .before .before .before .tracer-start .ensures) (add-sub-cancel-left s n ∙ t .tracer-length .ensures)
-            (d .0 ∙ ap (λ x. tracerStep quadratic (a .shape) w x .part) (lent-is t)) (length-after quadratic (a .shape) (h .fine .nx-above) (h .fine .ny-above) w p (stages quadratic (a .shape) w p)) ∙ q .1,
+            (d .0 ∙ ap (λ x. tracerStep quadratic (a .shape) w x .part) (lent-is t)) (length-after quadratic (a .shape) (h .small-grid .nx-above) (h .small-grid .ny-above) w p (stages quadratic (a .shape) w p)) ∙ q .1,
         (d .1 ∙ ap (λ x. overwrite 0 (tracerStep quadratic (a .shape) w x .report) (a .report .now)) (lent-is t) ∙ report-accepted _ _ (a .report .now) e, work-accepted _ _ (a .work .now) _ e (same-length-4 c)),
       ),
     )

@@ -71,7 +71,7 @@ upwind-start-requires c κs =
     let n = c .before .before .before in
     let b = n .before .before .before .before in
     let s = c .before .before .loop .side in
-    let small = elements-le (b .args .shape) (b .pre .fine) in (
+    let small = elements-le (b .args .shape) (b .pre .small-grid) in (
       subst (λ (l : List ℕ). getD l s 0 < 4096) (sym (behind-is n)) (omega (arith, small, behind-inside (b .args .shape) (b .args .e) (b .pre) s (omega arith))),
       (
         subst (λ (l : List ℕ). getD l s 0 < 4096) (sym (ahead-is n)) (omega (arith, small, ahead-inside (b .args .shape) (b .args .e) (b .pre) s (omega arith))),

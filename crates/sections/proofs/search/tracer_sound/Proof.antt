@@ -1,5 +1,5 @@
 -- Sum and soundness of the elements of a section that the search has passed, by rows, elements and numbers.
-use mathlib.Core.Path.{_≡_, refl, ap, _∙_}
+use mathlib.Core.Path.{_≡_, sym, refl, ap, _∙_}
 use mathlib.Core.Bool.{true}
 use mathlib.Core.List.{List}
 use mathlib.Core.Logic.{⊎-elim}
@@ -10,12 +10,12 @@ use borrow.Author.Needs.{needs}
 use lib.ListN.{getD}
 use Rattle.whole.specs.Sum.{sum, all}
 use Rattle.rules.specs.Field.{limit}
-use Rattle.field.specs.Places.{tenWeights}
-use Rattle.field.proofs.ElementLaws.{numbersSum, numbers-more, weight-le}
-use Rattle.field.proofs.PlaceLaws.{tracer-is, elements-le}
-use Rattle.field.proofs.SearchLaws.{soundTo, totalTo, sound-next, total-next, row-room, row-more, searched-sound, searched-remainder, searched-excess}
+use Rattle.parts.specs.Weighing.{tenWeights}
+use Rattle.parts.proofs.ElementLaws.{numbersSum, numbers-more, weight-le}
+use Rattle.places.proofs.PlaceLaws.{tracer-is, elements-le, row-room, row-more}
+use Rattle.searches.proofs.SearchLaws.{soundTo, totalTo, sound-next, total-next, searched-sound, searched-remainder, searched-excess, searched-yes, searched-no}
 use Rattle.sections.specs.Numbers.{numbersOf}
-use Rattle.sections.proofs.SearchLaws.{number-at, sound-yes, sound-no}
+use Rattle.sections.proofs.SectionLaws.{number-at}
 use Rattle.sections.proofs.search.tracer_sound.Statement.{statement}
 use Rattle.sections.proofs.search.tracer_sound.Tie as tie
 
@@ -186,7 +186,7 @@ returns c =
     let p = held (a .section .now) (g .nx) (g .ny) in
     let j : r .j ≡ g .ny = omega arith in
     let n : r .j * g .nx ≡ g .nx * g .ny = rw j (mul-comm (g .ny) (g .nx)) in
-    rw (tracer-is g) (r .inv .0 ∙ sound-yes g p (r .sum) (searched-sound g p (r .j * g .nx) (r .sum) n (r .inv .1) (r .inv .2) (r .inv .3)))
+    rw (tracer-is g) (r .inv .0 ∙ sym (searched-yes g p (r .sum) (searched-sound g p (r .j * g .nx) (r .sum) n (r .inv .1) (r .inv .2) (r .inv .3))))
 
 -- the element of a turn is there
 there : (c : tie.In-elements Inv-numbers μ-numbers Inv-elements μ-elements Inv-rows μ-rows)
@@ -205,7 +205,7 @@ returns-2 c =
     let k = e .before .before .before .rows .j * g .nx + e .before .elements .i in
     let p = held (a .section .now) (g .nx) (g .ny) in
     let here : e .before .elements .start + n .before .before .numbers .v ≡ k * 10 + 9 = omega (arith, c .before .if1 .taken, e .before .elements .inv .4) in
-    rw (tracer-is g) (sound-no g p (searched-remainder g p k (there e) (rw here at (rw (read n) at (c .if2 .taken)))))
+    rw (tracer-is g) (sym (searched-no g p 6 (searched-remainder g p k (there e) (rw here at (rw (read n) at (c .if2 .taken))))))
 
 returns-3 : tie.Need-returns-3 Inv-numbers μ-numbers Inv-elements μ-elements Inv-rows μ-rows
 returns-3 c =
@@ -215,8 +215,8 @@ returns-3 c =
     let g = a .shape in
     let k = e .before .before .before .rows .j * g .nx + e .before .elements .i in
     let p = held (a .section .now) (g .nx) (g .ny) in
-    rw (tracer-is g) (sound-no g p (searched-excess g p k (n .before .before .numbers .v + 1) (e .before .elements .start) (there e) (omega (arith, n .before .numbers-test .taken)) (e .before .elements .inv .4)
-    (rw (summed (c .before)) at (c .if3 .taken))))
+    rw (tracer-is g) (sym (searched-no g p 6 (searched-excess g p k (n .before .before .numbers .v + 1) (e .before .elements .start) (there e) (omega (arith, n .before .numbers-test .taken)) (e .before .elements .inv .4)
+    (rw (summed (c .before)) at (c .if3 .taken)))))
 
 pub tracer-sound-spec : {M : Type 1} → statement M
 tracer-sound-spec =

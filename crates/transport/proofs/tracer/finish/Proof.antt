@@ -40,7 +40,7 @@ unfolding blocks
 loop-holds c = (omega arith, omega arith, omega arith, refl)
 
 placed : (c : tie.In-loop Inv-loop μ-loop) → Placed (c .before .before .before .before .args .shape) (c .before .loop .e)
-placed c = record { fine = c .before .before .before .before .pre .0; inside = omega arith }
+placed c = record { small-grid = c .before .before .before .before .pre .0; inside = omega arith }
 
 -- the part is as long as it was, and a turn's numbers are within part and work
 long : (c : tie.In-loop Inv-loop μ-loop) → length (c .before .loop .part) ≡ elements (c .before .before .before .before .args .shape) * 10

@@ -7,7 +7,7 @@ use Rattle.rules.specs.Field.{elements}
 use Rattle.rules.specs.Step.{tracerStep}
 use Rattle.rules.specs.Calls.{windAt}
 use Rattle.stages.proofs.StagesLaws.{Holds, holds-start, holds-next, ready, stages-small}
-use Rattle.transport.proofs.TracerLaws.{number-small, light, Fluxed, fluxed, lent-small, Weighed, weighed, all-amounts, reported, all-finished, all-closed}
+use Rattle.transport.proofs.TracerLaws.{number-small, within-limit, Fluxed, fluxed, lent-small, Weighed, weighed, all-amounts, reported, all-finished, all-closed}
 use Rattle.transport.proofs.tracer.step.Statement.{statement}
 use Rattle.transport.proofs.tracer.step.Tie as tie
 
@@ -98,7 +98,7 @@ amounts-requires c κs =
       (
         b .pre .1 .0,
         (
-          light (a .shape) (a .wind .now) (a .part .now) (b .pre .0) (b .pre .1 .1 .1 .0) (b .pre .1 .0) (b .pre .1 .1 .0),
+          within-limit (a .shape) (a .wind .now) (a .part .now) (b .pre .0) (b .pre .1 .1 .1 .0) (b .pre .1 .0) (b .pre .1 .1 .0),
           (
             omega (arith, long-4 d, wide b),
             lent-small (a .shape) (a .wind .now) (a .part .now) (b .pre .0) (b .pre .1 .1 .1 .0) (b .pre .1 .0) (b .pre .1 .1 .0) (d .fluxes .last .0) (after-fluxes d) (omega (arith, long-4 d, wide b)),

@@ -1,0 +1,2 @@
+-- Answers and faces as numbers.
+pub mod NumberLaws

@@ -1,0 +1,56 @@
+use mathlib.Core.Path.{sym}
+use native.Mathlib.Omega.{arith}
+use Prim.Native.Nat.{_-_, _*_, _≤_}
+use borrow.Author.Needs.{needs}
+use Rattle.rules.specs.Field.{quadratic}
+use Rattle.places.proofs.PlaceLaws.{elements-le, tracer-le}
+use Rattle.file_layout.proofs.LayoutLaws.{wind-start, start-of, tracers-le}
+use Rattle.file_layout.proofs.section_start.Statement.{statement}
+use Rattle.file_layout.proofs.section_start.Tie as tie
+
+returns : tie.Need-returns
+returns c = rw (c .if1 .taken) (sym (wind-start quadratic (c .before .args .shape)))
+
+faces-requires : tie.Need-faces-requires
+faces-requires c κs = search needs
+
+mul-result : tie.Need-mul-result
+mul-result c = let b = c .before .before in record { fits = omega (arith, c .faces .ensures, elements-le (b .args .shape) (b .pre .0)) }
+
+sub-result : tie.Need-sub-result
+sub-result c = search needs
+
+tracer-length-requires : tie.Need-tracer-length-requires
+tracer-length-requires c κs = search needs
+
+mul-result-2 : tie.Need-mul-result-2
+mul-result-2 c = let b = c .before .before .before in record { fits = omega (arith, c .tracer-length .ensures, tracer-le (b .args .shape) (b .pre .0)) }
+
+-- the tracers before section i
+before : (c : tie.After-tracer-length) → (c .before .before .before .args .i - 1) * (4 * c .tracer-length .result) ≤ 1310720
+before c = let b = c .before .before .before in rw (c .tracer-length .ensures) (tracers-le (b .args .shape) (b .args .i - 1) (b .pre .0) (omega (arith, b .pre .1, b .pre .0 .tracers)))
+
+mul-result-3 : tie.Need-mul-result-3
+mul-result-3 c = record { fits = omega (arith, before c) }
+
+add-result : tie.Need-add-result
+add-result c = let b = c .before .before .before in record { fits = omega (arith, before c, c .before .faces .ensures, elements-le (b .args .shape) (b .pre .0)) }
+
+returns-2 : tie.Need-returns-2
+returns-2 c =
+    let b = c .before .before .before in
+    rw (c .before .faces .ensures, c .tracer-length .ensures) (sym (start-of quadratic (b .args .shape) (b .args .i) (omega (arith, c .before .before .if1 .left))))
+
+pub section-start-spec : {M : Type 1} → statement M
+section-start-spec =
+    tie.close
+    (tie.spec
+    returns
+    faces-requires
+    mul-result
+    sub-result
+    tracer-length-requires
+    mul-result-2
+    mul-result-3
+    add-result
+    returns-2)

@@ -1,0 +1,148 @@
+use mathlib.Core.Path.{_≡_, refl, sym, ap, _∙_}
+use mathlib.Core.Bool.{true, false}
+use Prim.Native.Nat.{_+_, _-_, _*_, _≤_}
+use native.Mathlib.Omega.{arith}
+use borrow.Author.Needs.{needs}
+use borrow.Author.Tests.{eq-eqb, ne-eqb}
+use lib.ListN.{length}
+use Rattle.whole.specs.Sum.{all}
+use Rattle.rules.specs.Field.{quadratic}
+use Rattle.rules.specs.FieldFile.{number32, fileLength, tableStart}
+use Rattle.whole.proofs.SumLaws.{all-more, all-fails}
+use Rattle.file_layout.proofs.LayoutLaws.{length-is, length-le}
+use Rattle.file_reading.proofs.ReadLaws.{offset, wrong-length, wrong-table, by-offsets}
+use Rattle.file_reading.proofs.checks.offsets_right.Statement.{statement}
+use Rattle.file_reading.proofs.checks.offsets_right.Tie as tie
+
+abbrev Inv-loop : tie.InvT-loop
+Inv-loop file shape n table count i₀ i = (i ≤ count) × (all i (offset shape file) ≡ true)
+
+abbrev μ-loop : tie.MeasureT-loop
+μ-loop file shape n table count i₀ i = count - i
+
+file-length-requires : tie.Need-file-length-requires Inv-loop μ-loop
+file-length-requires c κs = search needs
+
+returns : tie.Need-returns Inv-loop μ-loop
+returns c =
+    let a = c .before .before .before .args in
+    wrong-length (a .shape) (a .file .now) (λ e. omega (arith, e, c .if1 .taken, c .before .file-length .ensures))
+
+-- what each passed test says
+long : (c : tie.Else1 Inv-loop μ-loop) → length (c .before .before .before .args .file .now) ≡ fileLength quadratic (c .before .before .before .args .shape)
+long c = omega (arith, c .if1 .left, c .before .file-length .ensures)
+
+table-start-requires : tie.Need-table-start-requires Inv-loop μ-loop
+table-start-requires c κs = search needs
+
+sub-number32 : tie.Need-sub-number32 Inv-loop μ-loop
+sub-number32 c = let e = c .before in omega (arith, long e, length-is quadratic (e .before .before .before .args .shape))
+
+number32-requires : tie.Need-number32-requires Inv-loop μ-loop
+number32-requires c κs = let e = c .before in omega (arith, long e, length-is quadratic (e .before .before .before .args .shape))
+
+cast-if2 : tie.Need-cast-if2 Inv-loop μ-loop
+cast-if2 c = search needs
+
+returns-2 : tie.Need-returns-2 Inv-loop μ-loop
+returns-2 c =
+    let e = c .before .before .before in
+    let a = e .before .before .before .args in
+    wrong-table (a .shape) (a .file .now) (long e) (λ q. c .if2 .taken (c .before .number32 .ensures ∙ q ∙ sym (c .before .before .table-start .ensures)))
+
+table-right : (c : tie.Else2 Inv-loop μ-loop) → number32 (c .before .before .before .before .before .before .args .file .now) (length (c .before .before .before .before .before .before .args .file .now) - 8) ≡ tableStart quadratic (c .before .before .before .before .before .before .args .shape)
+table-right c = sym (c .before .number32 .ensures) ∙ c .if2 .left ∙ c .before .before .table-start .ensures
+
+add-count : tie.Need-add-count Inv-loop μ-loop
+add-count c = search needs
+
+loop-holds : tie.Need-loop-holds Inv-loop μ-loop
+unfolding all
+loop-holds c = (omega arith, refl)
+
+-- entry i of the table stands within the file
+room : (c : tie.In-loop Inv-loop μ-loop) → (c .before .before .before .before .before .table-start .result + 4 * c .before .loop .i + 4 ≤ length (c .before .before .before .before .before .before .before .before .before .args .file .now)) × (c .before .before .before .before .before .table-start .result + 4 * c .before .loop .i ≤ 1327152)
+room c =
+    let t = c .before .before .before .before .before in
+    let e = t .before in
+    let s = e .before .before .before in
+    (omega (arith, long e, length-is quadratic (s .args .shape), t .table-start .ensures), omega (arith, long e, length-is quadratic (s .args .shape), length-le (s .args .shape) (s .pre), t .table-start .ensures))
+
+mul-number32 : tie.Need-mul-number32 Inv-loop μ-loop
+mul-number32 c = search needs
+
+add-number32 : tie.Need-add-number32 Inv-loop μ-loop
+add-number32 c = record { fits = omega (arith, room c) }
+
+number32-requires-2 : tie.Need-number32-requires-2 Inv-loop μ-loop
+number32-requires-2 c κs = omega (arith, room c)
+
+cast-if3 : tie.Need-cast-if3 Inv-loop μ-loop
+cast-if3 c = search needs
+
+section-start-requires : tie.Need-section-start-requires Inv-loop μ-loop
+section-start-requires c κs = search needs
+
+-- what a turn compares is what the table holds
+read : (c : tie.After-number322 Inv-loop μ-loop) → c .number322 .result ≡ number32 (c .before .before .before .before .before .before .before .before .before .before .args .file .now) (tableStart quadratic (c .before .before .before .before .before .before .before .before .before .before .args .shape) + 4 * c .before .before .loop .i)
+read c =
+    let t = c .before .before .before .before .before .before in
+    c .number322 .ensures ∙ ap (λ n. number32 (t .before .before .before .before .args .file .now) (n + 4 * c .before .before .loop .i)) (t .table-start .ensures)
+
+returns-3 : tie.Need-returns-3 Inv-loop μ-loop
+returns-3 c =
+    let b = c .before in
+    let l = b .before .before .before in
+    let d = l .before .before in
+    let e = d .before .before .before in
+    let a = e .before .before .before .args in
+    by-offsets (a .shape) (a .file .now) (long e) (table-right d) false
+    (all-fails (a .shape .tracers + 1) (offset (a .shape) (a .file .now)) (l .loop .i) (omega arith) (ne-eqb _ _ (λ q. c .if3 .taken (read (b .before) ∙ q ∙ sym (b .section-start .ensures)))))
+
+add-i : tie.Need-add-i Inv-loop μ-loop
+add-i c = search needs
+
+loop-less : tie.Need-loop-less Inv-loop μ-loop
+loop-less c = search needs
+
+loop-again : tie.Need-loop-again Inv-loop μ-loop
+loop-again c =
+    let b = c .before in
+    let l = b .before .before .before in
+    let a = l .before .before .before .before .before .before .before .before .args in
+    (omega arith, all-more (l .loop .i) (offset (a .shape) (a .file .now)) (l .loop .inv .1) (eq-eqb _ _ (sym (read (b .before)) ∙ c .if3 .left ∙ b .section-start .ensures)))
+
+returns-4 : tie.Need-returns-4 Inv-loop μ-loop
+returns-4 c =
+    let l = c .before in
+    let d = l .before .before in
+    let e = d .before .before .before in
+    let a = e .before .before .before .args in
+    let q : l .loop .i ≡ a .shape .tracers + 1 = omega arith in
+    by-offsets (a .shape) (a .file .now) (long e) (table-right d) true (rw q at (l .loop .inv .1))
+
+pub offsets-right-spec : {M : Type 1} → statement M
+offsets-right-spec =
+    tie.close
+    (tie.spec
+    Inv-loop
+    μ-loop
+    file-length-requires
+    returns
+    table-start-requires
+    sub-number32
+    number32-requires
+    cast-if2
+    returns-2
+    add-count
+    loop-holds
+    mul-number32
+    add-number32
+    number32-requires-2
+    cast-if3
+    section-start-requires
+    returns-3
+    add-i
+    loop-less
+    loop-again
+    returns-4)

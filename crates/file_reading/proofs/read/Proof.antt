@@ -1,0 +1,96 @@
+use mathlib.Core.Path.{_≡_, sym, ap, _∙_}
+use borrow.Author.Needs.{needs}
+use lib.ListN.{length}
+use Rattle.rules.specs.Answers.{outcome, accepted}
+use Rattle.file_reading.specs.Reading.{tailAnswer, tailReply, shapeReply}
+use Rattle.file_reading.proofs.CheckLaws.{Given, given, Fitting, fitting, read-no-tail, read-refused, read-done}
+use Rattle.file_reading.proofs.read.Statement.{statement}
+use Rattle.file_reading.proofs.read.Tie as tie
+
+read-tail-requires : tie.Need-read-tail-requires
+read-tail-requires c κs = search needs
+
+enum-known-tail : tie.Need-enum-known-tail
+enum-known-tail c = search needs
+
+enum-told : tie.Need-enum-told
+enum-told c = search needs
+
+answer-of-requires : tie.Need-answer-of-requires
+answer-of-requires c κs = search needs
+
+returns : tie.Need-returns
+returns c =
+    let b = c .before .before .before in
+    let a = b .before .before .before .args in
+    let e = ap tailAnswer (c .before .enum-told .given .1) in
+    let r = read-no-tail (a .file .now) (a .field .now) (a .wind .now) _ (sym (b .read-tail .ensures) ∙ e) in
+    (c .answer-of .ensures ∙ e ∙ r .0, r .1)
+
+-- the tail gave a shape
+shaped : (c : tie.After-known-told) → tailReply (c .before .before .before .before .before .before .args .file .now) ≡ accepted (c .before .tail .given .0 .0)
+shaped c = sym (c .before .before .before .read-tail .ensures) ∙ ap tailAnswer (c .before .tail .given .1)
+
+facts : (c : tie.After-known-told) → Given (c .before .before .before .before .before .before .args .file .now) (c .before .tail .given .0 .0)
+facts c = given (c .before .before .before .before .before .before .args .file .now) (c .before .tail .given .0 .0) (shaped c)
+
+check-requires : tie.Need-check-requires
+check-requires c κs = facts c .sizes
+
+enum-known-checked : tie.Need-enum-known-checked
+enum-known-checked c = search needs
+
+enum-told-2 : tie.Need-enum-told-2
+enum-told-2 c = search needs
+
+-- every check is passed
+passed : (c : tie.After-enum-told2) → shapeReply (c .before .before .before .before .tail .given .0 .0) (c .before .before .before .before .before .before .before .before .before .args .file .now) (length (c .before .before .before .before .before .before .before .before .before .args .field .now)) (length (c .before .before .before .before .before .before .before .before .before .args .wind .now)) ≡ accepted tt
+passed c = sym (c .before .before .check .ensures) ∙ ap outcome (c .enum-told2 .given .1)
+
+fits : (c : tie.After-enum-told2) → Fitting (c .before .before .before .before .tail .given .0 .0) (c .before .before .before .before .before .before .before .before .before .args .file .now) (length (c .before .before .before .before .before .before .before .before .before .args .field .now)) (length (c .before .before .before .before .before .before .before .before .before .args .wind .now))
+fits c = let a = c .before .before .before .before .before .before .before .before .before .args in fitting (c .before .before .before .before .tail .given .0 .0) (a .file .now) (length (a .field .now)) (length (a .wind .now)) (passed c)
+
+read-wind-requires : tie.Need-read-wind-requires
+read-wind-requires c κs = let h = fits (c .before) in (facts (c .before .before .before .before) .sizes, (h .long, h .winds))
+
+read-tracers-requires : tie.Need-read-tracers-requires
+read-tracers-requires c κs = let h = fits (c .before .before .before .before) in (facts (c .before .before .before .before .before .before .before) .sizes, (h .long, h .fields))
+
+returns-2 : tie.Need-returns-2
+returns-2 c =
+    let k = c .before .before .before .before in
+    let a = k .before .before .before .before .before .before .args in
+    read-refused (a .file .now) (a .field .now) (a .wind .now) (k .before .tail .given .0 .0) _ (shaped k) (sym (c .before .before .before .check .ensures) ∙ ap outcome (c .before .checked .given .1))
+
+same-length : tie.Need-same-length
+same-length c = search needs
+
+same-length-2 : tie.Need-same-length-2
+same-length-2 c = search needs
+
+returns-3 : tie.Need-returns-3
+returns-3 c =
+    let p = c .before .before .before .before .before .before .before in
+    let k = p .before .before .before in
+    let a = k .before .before .before .before .before .before .args in
+    let r = read-done (a .file .now) (a .field .now) (a .wind .now) (k .before .tail .given .0 .0) (shaped k) (passed p) in
+    (r .0, (c .before .before .read-tracers .ensures ∙ r .1 .0, c .before .before .before .before .before .read-wind .ensures ∙ r .1 .1))
+
+pub read-spec : {M : Type 1} → statement M
+read-spec =
+    tie.close
+    (tie.spec
+    read-tail-requires
+    enum-known-tail
+    enum-told
+    answer-of-requires
+    returns
+    check-requires
+    enum-known-checked
+    enum-told-2
+    read-wind-requires
+    read-tracers-requires
+    returns-2
+    same-length
+    same-length-2
+    returns-3)

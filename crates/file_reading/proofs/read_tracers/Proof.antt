@@ -1,0 +1,147 @@
+use mathlib.Core.Path.{_≡_, refl, sym, ap, _∙_}
+use mathlib.Core.List.{_++_}
+use Prim.Native.Nat.{_+_, _-_, _*_, _≤_}
+use native.Mathlib.Omega.{arith}
+use borrow.Author.Needs.{needs}
+use lib.ListN.{length, drop}
+use Rattle.whole.specs.Table.{table, overwrite}
+use Rattle.whole.proofs.OverwriteLaws.{part-size, filled-front}
+use Rattle.rules.specs.Field.{quadratic, tracerLength, fieldLength}
+use Rattle.places.proofs.PlaceLaws.{tracer-room, field-is, field-le, row-more}
+use Rattle.file_layout.proofs.LayoutLaws.{tracer-span}
+use Rattle.file_reading.proofs.ReadLaws.{fieldNumber, field-numbers, tracer-read}
+use Rattle.file_reading.proofs.read_tracers.Statement.{statement}
+use Rattle.file_reading.proofs.read_tracers.Tie as tie
+
+abbrev Inv-loop : tie.InvT-loop
+Inv-loop file field₀ shape n tracers to₀ s₀ field to s = (s ≤ tracers) × (to ≡ s * n) × (length field ≡ length field₀) × (field ≡ table to (fieldNumber shape file) ++ drop to field₀)
+
+abbrev μ-loop : tie.MeasureT-loop
+μ-loop file field₀ shape n tracers to₀ s₀ field to s = tracers - s
+
+tracer-length-requires : tie.Need-tracer-length-requires Inv-loop μ-loop
+tracer-length-requires c κs = search needs
+
+loop-holds : tie.Need-loop-holds Inv-loop μ-loop
+unfolding table
+loop-holds c = (omega arith, omega arith, refl, refl)
+
+add-section-start : tie.Need-add-section-start Inv-loop μ-loop
+add-section-start c = search needs
+
+section-start-requires : tie.Need-section-start-requires Inv-loop μ-loop
+section-start-requires c κs = search needs
+
+add-section-start-2 : tie.Need-add-section-start-2 Inv-loop μ-loop
+add-section-start-2 c = search needs
+
+section-start-requires-2 : tie.Need-section-start-requires-2 Inv-loop μ-loop
+section-start-requires-2 c κs = search needs
+
+-- the section of a turn
+span : (c : tie.After-section-start2 Inv-loop μ-loop) → (c .section-start2 .result ≡ c .before .section-start .result + 4 * tracerLength quadratic (c .before .before .before .before .before .before .before .args .shape)) × (c .section-start2 .result ≤ length (c .before .before .before .before .before .before .before .args .file .now))
+span c =
+    let s = c .before .before .before .before .before .before .before in
+    let t = tracer-span (s .args .shape) (c .before .before .before .loop .s) (c .before .section-start .result) (c .section-start2 .result) (c .before .before .loop-test .taken) (c .before .section-start .ensures) (c .section-start2 .ensures) in
+    (t .0, omega (arith, t .1, s .pre .1 .0))
+
+-- the tracer's part that a turn writes ends within the field
+room : (c : tie.In-loop Inv-loop μ-loop) → (c .before .loop .to + c .before .before .tracer-length .result ≤ length (c .before .loop .field)) × (c .before .loop .to + c .before .before .tracer-length .result ≤ 327680)
+room c =
+    let l = c .before in
+    let t = l .before in
+    let s = t .before .before .before in
+    let g = s .args .shape in
+    let e : l .loop .to ≡ l .loop .s * tracerLength quadratic g = l .loop .inv .1 ∙ ap (λ n. l .loop .s * n) (t .tracer-length .ensures) in
+    let r = tracer-room g (l .loop .s) (c .loop-test .taken) in
+    (omega (arith, e, r, t .tracer-length .ensures, s .pre .1 .1, l .loop .inv .2), omega (arith, e, r, t .tracer-length .ensures, field-is g, field-le g (s .pre .0)))
+
+add-to-end : tie.Need-add-to-end Inv-loop μ-loop
+add-to-end c = record { fits = omega (arith, room (c .before .before)) }
+
+sub-read-numbers : tie.Need-sub-read-numbers Inv-loop μ-loop
+sub-read-numbers c = omega (arith, span c)
+
+part-read-numbers-start : tie.Need-part-read-numbers-start Inv-loop μ-loop
+part-read-numbers-start c = omega (arith, span c)
+
+part-read-numbers-end : tie.Need-part-read-numbers-end Inv-loop μ-loop
+part-read-numbers-end c = omega (arith, span c)
+
+mul-read-numbers : tie.Need-mul-read-numbers Inv-loop μ-loop
+mul-read-numbers c = omega (arith, room (c .before .before .before))
+
+sub-read-numbers-2 : tie.Need-sub-read-numbers-2 Inv-loop μ-loop
+sub-read-numbers-2 c = search needs
+
+part-read-numbers-start-2 : tie.Need-part-read-numbers-start-2 Inv-loop μ-loop
+part-read-numbers-start-2 c = search needs
+
+part-read-numbers-end-2 : tie.Need-part-read-numbers-end-2 Inv-loop μ-loop
+part-read-numbers-end-2 c = omega (arith, room (c .before .before .before))
+
+read-numbers-requires : tie.Need-read-numbers-requires Inv-loop μ-loop
+read-numbers-requires c κs =
+    let b = c .before .before in
+    let l = b .before .before .before in
+    let s = l .before .before .before .before in
+    let n = l .before .tracer-length .result in
+    (omega (arith, l .before .tracer-length .ensures, part-size (4 * tracerLength quadratic (s .args .shape)) (b .before .section-start .result) (b .section-start2 .result - b .before .section-start .result) (s .args .file .now) (omega (arith, span b)) (omega (arith, span b))), omega (arith, part-size n (l .loop .to) (l .loop .to + n - l .loop .to) (l .loop .field) (omega arith) (room (b .before .before) .0)))
+
+add-s : tie.Need-add-s Inv-loop μ-loop
+add-s c = search needs
+
+loop-less : tie.Need-loop-less Inv-loop μ-loop
+loop-less c = search needs
+
+loop-again : tie.Need-loop-again Inv-loop μ-loop
+loop-again c =
+    let r = c .before .before in
+    let b = r .before .before .before in
+    let l = b .before .before .before in
+    let t = l .before in
+    let a = t .before .before .before .args in
+    let n = t .tracer-length .result in
+    let next = tracer-read (a .shape) (a .file .now) (l .loop .s) (b .before .section-start .result) (b .section-start2 .result - b .before .section-start .result) (l .loop .to) n (l .loop .to + n - l .loop .to) (a .field .now) (l .loop .field) _
+    (b .before .section-start .ensures) (omega (arith, span b)) (t .tracer-length .ensures) (l .loop .inv .1) (omega arith) (room (b .before .before) .0) (l .loop .inv .3) (r .read-numbers .ensures) in
+    (omega arith, omega (arith, row-more n (l .loop .s), l .loop .inv .1), search needs, next)
+
+same-length : tie.Need-same-length Inv-loop μ-loop
+same-length c = search needs
+
+returns : tie.Need-returns Inv-loop μ-loop
+returns c =
+    let l = c .before in
+    let t = l .before in
+    let a = t .before .before .before .args in
+    let g = a .shape in
+    let e : l .loop .s ≡ g .tracers = omega arith in
+    let n : l .loop .to ≡ fieldLength quadratic g = l .loop .inv .1 ∙ (λ i. e i * t .tracer-length .ensures i) ∙ sym (field-is g) in
+    (rw n at (l .loop .inv .3)) ∙ filled-front (fieldLength quadratic g) (fieldNumber g (a .file .now)) (a .field .now) ∙ ap (λ x. overwrite 0 x (a .field .now)) (field-numbers g (a .file .now))
+
+pub read-tracers-spec : {M : Type 1} → statement M
+read-tracers-spec =
+    tie.close
+    (tie.spec
+    Inv-loop
+    μ-loop
+    tracer-length-requires
+    loop-holds
+    add-section-start
+    section-start-requires
+    add-section-start-2
+    section-start-requires-2
+    add-to-end
+    sub-read-numbers
+    part-read-numbers-start
+    part-read-numbers-end
+    mul-read-numbers
+    sub-read-numbers-2
+    part-read-numbers-start-2
+    part-read-numbers-end-2
+    read-numbers-requires
+    add-s
+    loop-less
+    loop-again
+    same-length
+    returns)

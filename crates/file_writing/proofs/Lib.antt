@@ -1,0 +1,4 @@
+-- Laws of the parts of the file and of the checks.
+pub mod WritingLaws
+pub mod FileWritten
+pub mod WriteChecks

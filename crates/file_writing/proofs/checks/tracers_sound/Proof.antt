@@ -1,0 +1,104 @@
+use mathlib.Core.Path.{_≡_, refl, sym}
+use mathlib.Core.Bool.{true}
+use borrow.Author.Needs.{needs}
+use native.Mathlib.Nat.{zero-mul, suc-mul}
+use native.Mathlib.Numerals.{add-one}
+use native.Mathlib.Omega.{arith}
+use Prim.Native.Nat.{_≤_, _+_, _-_, _*_}
+use Rattle.whole.specs.Sum.{all}
+use Rattle.rules.specs.Field.{quadratic, fieldLength, part, sound}
+use Rattle.rules.specs.FieldFile.{fieldSound}
+use Rattle.whole.proofs.SumLaws.{all-more, all-fails}
+use Rattle.file_writing.proofs.WritingLaws.{ends, lent-length, found-sound, found-unsound}
+use Rattle.file_writing.proofs.checks.tracers_sound.Statement.{statement}
+use Rattle.file_writing.proofs.checks.tracers_sound.Tie as tie
+
+abbrev Inv-loop : tie.InvT-loop
+Inv-loop field shape tracers length start₀ s₀ start s = (s ≤ tracers) × (start ≡ s * length) × (all s (λ k. sound quadratic shape (part quadratic shape k field)) ≡ true)
+
+abbrev μ-loop : tie.MeasureT-loop
+μ-loop field shape tracers length start₀ s₀ start s = tracers - s
+
+tracer-length-requires : tie.Need-tracer-length-requires Inv-loop μ-loop
+tracer-length-requires c κs = c .before .pre .0
+
+loop-holds : tie.Need-loop-holds Inv-loop μ-loop
+unfolding all
+loop-holds c = (omega arith, sym (zero-mul _), refl)
+
+-- the tracer of a turn ends within the field
+within : (c : tie.In-loop Inv-loop μ-loop)
+    → (c .before .loop .start + c .before .before .tracer-length .result ≤ fieldLength quadratic (c .before .before .before .before .args .shape)) × (c .before .loop .start + c .before .before .tracer-length .result ≤ 327680)
+within c =
+    let b = c .before .before .before .before in
+    let l = c .before .loop in
+    ends (b .args .shape) (b .args .field .now) (b .pre .1) (l .s) (l .start) (c .before .before .tracer-length .result) (c .loop-test .taken) (l .inv .1) (c .before .before .tracer-length .ensures) (b .pre .0)
+
+add-end : tie.Need-add-end Inv-loop μ-loop
+add-end c = record { fits = omega (arith, within c) }
+
+mul-tracer-total : tie.Need-mul-tracer-total Inv-loop μ-loop
+mul-tracer-total c = omega (arith, within c)
+
+sub-tracer-total : tie.Need-sub-tracer-total Inv-loop μ-loop
+sub-tracer-total c = search needs
+
+part-tracer-total-start : tie.Need-part-tracer-total-start Inv-loop μ-loop
+part-tracer-total-start c = search needs
+
+part-tracer-total-end : tie.Need-part-tracer-total-end Inv-loop μ-loop
+part-tracer-total-end c = omega (arith, within c, c .before .before .before .before .pre .1)
+
+tracer-total-requires : tie.Need-tracer-total-requires Inv-loop μ-loop
+tracer-total-requires c κs =
+    let b = c .before .before .before .before .before in
+    let l = c .before .before .loop in
+    (b .pre .0, lent-length (b .args .shape) (b .args .field .now) (b .pre .1) (l .s) (l .start) (c .before .before .before .tracer-length .result) (c .before .loop-test .taken) (l .inv .1) (c .before .before .before .tracer-length .ensures))
+
+enum-told : tie.Need-enum-told Inv-loop μ-loop
+enum-told c = search needs
+
+enum-told-2 : tie.Need-enum-told-2 Inv-loop μ-loop
+enum-told-2 c = search needs
+
+returns : tie.Need-returns Inv-loop μ-loop
+unfolding fieldSound
+returns c =
+    let t = c .before .before in
+    let n = t .before .before in
+    let b = n .before .before .before .before in
+    let l = n .before .loop in
+    let w = n .before .before .tracer-length in
+    let g = b .args .shape in
+    let f = b .args .field .now in
+    sym (all-fails (g .tracers) (λ k. sound quadratic g (part quadratic g k f)) (l .s) (n .loop-test .taken)
+    (found-unsound g f (b .pre .1) (l .s) (l .start) (w .result) (n .loop-test .taken) (l .inv .1) (w .ensures) (t .tracer-total .result) (t .tracer-total .ensures) _ (c .enum-told2 .given .1)))
+
+add-s : tie.Need-add-s Inv-loop μ-loop
+add-s c = search needs
+
+loop-less : tie.Need-loop-less Inv-loop μ-loop
+loop-less c = search needs
+
+loop-again : tie.Need-loop-again Inv-loop μ-loop
+loop-again c =
+    let t = c .before .before in
+    let n = t .before .before in
+    let b = n .before .before .before .before in
+    let l = n .before .loop in
+    let w = n .before .before .tracer-length in
+    let g = b .args .shape in
+    let f = b .args .field .now in
+    let next : (l .s + 1) * w .result ≡ l .s * w .result + w .result = rw (add-one (l .s)) (suc-mul (l .s) (w .result)) in (
+      omega arith,
+      omega (arith, l .inv .1, next),
+      all-more (l .s) (λ k. sound quadratic g (part quadratic g k f)) (l .inv .2)
+          (found-sound g f (b .pre .1) (l .s) (l .start) (w .result) (n .loop-test .taken) (l .inv .1) (w .ensures) (t .tracer-total .result) (t .tracer-total .ensures) _ (c .enum-told .given .1)),
+    )
+
+returns-2 : tie.Need-returns-2 Inv-loop μ-loop
+unfolding fieldSound
+returns-2 c = let e : c .before .loop .s ≡ c .before .before .before .before .args .shape .tracers = omega arith in sym (rw e at (c .before .loop .inv .2))
+
+pub tracers-sound-spec : {M : Type 1} → statement M
+tracers-sound-spec = tie.close (tie.spec Inv-loop μ-loop tracer-length-requires loop-holds add-end mul-tracer-total sub-tracer-total part-tracer-total-start part-tracer-total-end tracer-total-requires enum-told enum-told-2 returns add-s loop-less loop-again returns-2)

@@ -1,0 +1,52 @@
+use mathlib.Core.Path.{sym, ap, _∙_}
+use borrow.Author.Needs.{needs}
+use Rattle.rules.specs.Answers.{reading}
+use Rattle.rules.specs.Field.{quadratic}
+use Rattle.rules.proofs.FieldLaws.{ranges}
+use Rattle.places.proofs.PlaceLaws.{sized}
+use Rattle.file_layout.proofs.ReplyLaws.{Writable, write-shown, file-written, file-kept}
+use Rattle.file_writing.proofs.write.Statement.{statement}
+use Rattle.file_writing.proofs.write.Tie as tie
+
+check-requires : tie.Need-check-requires
+check-requires c κs = search needs
+
+enum-known-checked : tie.Need-enum-known-checked
+enum-known-checked c = search needs
+
+enum-known-checked-2 : tie.Need-enum-known-checked-2
+enum-known-checked-2 c = search needs
+
+-- what an accepted check has shown
+shown : (c : tie.After-known-told2) → Writable quadratic (c .before .before .before .before .before .before .before .args .shape) (c .before .before .before .before .before .before .before .args .field .now) (c .before .before .before .before .before .before .before .args .wind .now) (c .before .before .before .before .before .before .before .args .file .now)
+shown c =
+    let a = c .before .before .before .before .before .before .before .args in
+    write-shown quadratic (a .shape) (a .field .now) (a .wind .now) (a .file .now) _ (sym (c .before .before .before .check .ensures) ∙ ap reading (c .before .checked2 .given .1)) .0
+
+write-parts-requires : tie.Need-write-parts-requires
+write-parts-requires c κs =
+    let w = shown (c .before) in
+    (sized (ranges (c .before .before .before .before .before .before .before .before .args .shape) (w .ranges)), (w .out-room, (w .field-room, w .wind-room)))
+
+same-length : tie.Need-same-length
+same-length c = search needs
+
+returns : tie.Need-returns
+returns c =
+    let a = c .before .before .before .before .before .before .before .args in
+    let e = sym (c .before .before .before .check .ensures) ∙ ap reading (c .before .checked .given .1) in
+    (sym e, file-kept quadratic (a .shape) (a .field .now) (a .wind .now) (a .file .now) _ e)
+
+same-length-2 : tie.Need-same-length-2
+same-length-2 c = search needs
+
+returns-2 : tie.Need-returns-2
+returns-2 c =
+    let k = c .before .before .before .before in
+    let a = c .before .before .before .before .before .before .before .before .before .before .before .args in (
+      sym (sym (k .before .before .before .check .ensures) ∙ ap reading (k .before .checked2 .given .1)),
+      c .before .before .write-parts .ensures ∙ sym (file-written quadratic (a .shape) (a .field .now) (a .wind .now) (a .file .now) (shown k)),
+    )
+
+pub write-spec : {M : Type 1} → statement M
+write-spec = tie.close (tie.spec check-requires enum-known-checked enum-known-checked-2 write-parts-requires same-length returns same-length-2 returns-2)

@@ -1,0 +1,167 @@
+use mathlib.Core.Path.{_≡_, refl, ap, _∙_}
+use mathlib.Core.List.{_++_}
+use borrow.Author.Needs.{needs}
+use native.Mathlib.Nat.{add-sub-cancel-left}
+use native.Mathlib.Omega.{arith}
+use Prim.Native.Nat.{_≤_, _+_, _-_, _*_}
+use lib.ListN.{length, take, drop}
+use Rattle.whole.specs.Table.{blocks, overwrite}
+use Rattle.whole.proofs.OverwriteLaws.{part-size}
+use Rattle.rules.specs.Field.{quadratic, faces, fieldLength}
+use Rattle.rules.specs.Calls.{windAt}
+use Rattle.rules.specs.FieldFile.{bytes16}
+use Rattle.file_layout.proofs.FileLaws.{field-start, table-start, fieldBytes}
+use Rattle.file_layout.proofs.LayoutLaws.{wind-start, length-le, length-is}
+use Rattle.file_writing.proofs.FileWritten.{with-winds, with-tracers, with-table, winds-long, tracers-long, table-long, winds-made, table-made, tail-made}
+use Rattle.file_writing.proofs.write_parts.Statement.{statement}
+use Rattle.file_writing.proofs.write_parts.Tie as tie
+
+section-start-requires : tie.Need-section-start-requires
+section-start-requires c κs = (c .before .before .pre .0, omega arith)
+
+section-start-requires-2 : tie.Need-section-start-requires-2
+section-start-requires-2 c κs = (c .before .before .before .pre .0, omega arith)
+
+table-start-requires : tie.Need-table-start-requires
+table-start-requires c κs = c .before .before .before .before .pre .0
+
+add-tail : tie.Need-add-tail
+add-tail c = search needs
+
+mul-tail : tie.Need-mul-tail
+mul-tail c = search needs
+
+add-tail-2 : tie.Need-add-tail-2
+add-tail-2 c = let b = c .before .before .before .before .before .before in record { fits = omega (arith, c .before .table-start .ensures, length-is quadratic (b .args .shape), length-le (b .args .shape) (b .pre .0)) }
+
+file-length-requires : tie.Need-file-length-requires
+file-length-requires c κs = c .before .before .before .before .before .before .pre .0
+
+-- where the parts stand
+record Places (c : tie.After-file-length) : Type 0 where
+  first : c .before .before .before .before .section-start .result ≡ 0
+  second : c .before .before .before .section-start2 .result ≡ 2 * faces (c .before .before .before .before .before .before .before .args .shape)
+  third : c .before .before .table-start .result ≡ 2 * faces (c .before .before .before .before .before .before .before .args .shape) + 4 * fieldLength quadratic (c .before .before .before .before .before .before .before .args .shape)
+  last : c .file-length .result ≡ c .before .before .table-start .result + 4 * (c .before .before .before .before .before .before .before .args .shape .tracers + 1) + 12
+  room : c .file-length .result ≤ length (c .before .before .before .before .before .before .before .args .file .now)
+
+places : (c : tie.After-file-length) → Places c
+places c =
+    let b = c .before .before .before .before .before .before .before in
+    let g = b .args .shape in
+    record {
+      first = c .before .before .before .before .section-start .ensures ∙ wind-start quadratic g;
+      second = c .before .before .before .section-start2 .ensures ∙ field-start quadratic g;
+      third = c .before .before .table-start .ensures ∙ table-start quadratic g;
+      last = omega (arith, c .file-length .ensures, length-is quadratic g, c .before .before .table-start .ensures);
+      room = omega (arith, c .file-length .ensures, b .pre .1 .0);
+    }
+
+sub-write-winds : tie.Need-sub-write-winds
+sub-write-winds c = let p = places c in omega arith
+
+part-write-winds-start : tie.Need-part-write-winds-start
+part-write-winds-start c = let p = places c in omega arith
+
+part-write-winds-end : tie.Need-part-write-winds-end
+part-write-winds-end c = let p = places c in omega arith
+
+faces-requires : tie.Need-faces-requires
+faces-requires c κs = c .before .before .before .before .before .before .before .before .pre .0
+
+write-winds-requires : tie.Need-write-winds-requires
+write-winds-requires c κs =
+    let p = places (c .before .before) in
+    let b = c .before .before .before .before .before .before .before .before .before in
+    let w = c .before .before .before .before .before .before .section-start .result in
+    let t = c .before .before .before .before .before .section-start2 .result in
+    (omega (arith, c .faces .ensures, part-size (t - w) w (t - w) (b .args .file .now) refl (omega arith)), omega (arith, c .faces .ensures, b .pre .1 .1 .1))
+
+-- the file after each part
+after-winds : (c : tie.After-write-winds)
+    → take (c .before .before .before .before .before .before .before .section-start .result) (c .before .before .before .before .before .before .before .before .before .before .args .file .now) ++ (c .write-winds .last .0 ++ drop (c .before .before .before .before .before .before .section-start2 .result - c .before .before .before .before .before .before .before .section-start .result) (drop (c .before .before .before .before .before .before .before .section-start .result) (c .before .before .before .before .before .before .before .before .before .before .args .file .now)))
+    ≡ with-winds (c .before .before .before .before .before .before .before .before .before .before .args .shape) (c .before .before .before .before .before .before .before .before .before .before .args .field .now) (c .before .before .before .before .before .before .before .before .before .before .args .wind .now) (c .before .before .before .before .before .before .before .before .before .before .args .file .now) (c .before .before .before .before .before .before .before .before .before .before .pre .1 .0)
+after-winds c =
+    let b = c .before .before .before .before .before .before .before .before .before .before in
+    let g = b .args .shape in
+    let s = c .before .before .before .before .before .before .before .section-start in
+    let t = c .before .before .before .before .before .before .section-start2 in
+    winds-made g (b .args .field .now) (b .args .wind .now) (b .args .file .now) (b .pre .1 .0) (s .result) (t .result) (c .write-winds .last .0) (s .ensures) (t .ensures)
+    (c .write-winds .ensures ∙ ap (λ n. overwrite 0 (blocks n (λ f. bytes16 (windAt (b .args .wind .now) f))) (take (t .result - s .result) (drop (s .result) (b .args .file .now)))) (c .before .faces .ensures))
+
+after-tracers : (c : tie.After-write-tracers) → c .write-tracers .last .0 ≡ with-tracers (c .before .before .before .before .before .before .before .before .before .before .before .before .before .before .args .shape) (c .before .before .before .before .before .before .before .before .before .before .before .before .before .before .args .field .now) (c .before .before .before .before .before .before .before .before .before .before .before .before .before .before .args .wind .now) (c .before .before .before .before .before .before .before .before .before .before .before .before .before .before .args .file .now) (c .before .before .before .before .before .before .before .before .before .before .before .before .before .before .pre .1 .0)
+after-tracers c =
+    let b = c .before .before .before .before .before .before .before .before .before .before .before .before .before .before in
+    let g = b .args .shape in
+    c .write-tracers .ensures ∙ ap (overwrite (2 * faces g) (fieldBytes quadratic g (b .args .field .now))) (after-winds (c .before .before .before .before))
+
+after-table : (c : tie.After-write-table)
+    → take (c .before .before .before .before .before .before .before .before .before .before .before .before .before .table-start .result) (c .before .before .before .before .write-tracers .last .0) ++ (c .write-table .last .0 ++ drop (c .before .before .before .before .before .before .before .before .before .before .before .before .before .table-start .result + 4 * (c .before .before .before .before .before .before .before .before .before .before .before .before .before .before .before .before .before .before .args .shape .tracers + 1) - c .before .before .before .before .before .before .before .before .before .before .before .before .before .table-start .result) (drop (c .before .before .before .before .before .before .before .before .before .before .before .before .before .table-start .result) (c .before .before .before .before .write-tracers .last .0)))
+    ≡ with-table (c .before .before .before .before .before .before .before .before .before .before .before .before .before .before .before .before .before .before .args .shape) (c .before .before .before .before .before .before .before .before .before .before .before .before .before .before .before .before .before .before .args .field .now) (c .before .before .before .before .before .before .before .before .before .before .before .before .before .before .before .before .before .before .args .wind .now) (c .before .before .before .before .before .before .before .before .before .before .before .before .before .before .before .before .before .before .args .file .now) (c .before .before .before .before .before .before .before .before .before .before .before .before .before .before .before .before .before .before .pre .1 .0)
+after-table c =
+    let b = c .before .before .before .before .before .before .before .before .before .before .before .before .before .before .before .before .before .before in
+    let g = b .args .shape in
+    let t = c .before .before .before .before .before .before .before .before .before .before .before .before .before .table-start in
+    table-made g (b .args .field .now) (b .args .wind .now) (b .args .file .now) (b .pre .1 .0) (t .result) (t .result + 4 * (g .tracers + 1)) (c .write-table .last .0) (c .before .before .before .before .write-tracers .last .0) (t .ensures) refl
+    (after-tracers (c .before .before .before .before)) (c .write-table .ensures)
+
+write-tracers-requires : tie.Need-write-tracers-requires
+write-tracers-requires c κs =
+    let b = c .before .before .before .before .before .before .before .before .before .before .before .before .before in
+    let g = b .args .shape in
+    let long = ap length (after-winds (c .before .before .before)) ∙ winds-long (c .before .before .before .before .before .before .before .before .before .before .before .before .before .args .shape) (c .before .before .before .before .before .before .before .before .before .before .before .before .before .args .field .now) (c .before .before .before .before .before .before .before .before .before .before .before .before .before .args .wind .now) (c .before .before .before .before .before .before .before .before .before .before .before .before .before .args .file .now) (c .before .before .before .before .before .before .before .before .before .before .before .before .before .pre .1 .0) in
+    (b .pre .0, (omega (arith, long, b .pre .1 .0, table-start quadratic g, length-is quadratic g), b .pre .1 .1 .0))
+
+sub-write-table : tie.Need-sub-write-table
+sub-write-table c = search needs
+
+part-write-table-start : tie.Need-part-write-table-start
+part-write-table-start c = search needs
+
+part-write-table-end : tie.Need-part-write-table-end
+part-write-table-end c =
+    let p = places (c .before .before .before .before .before .before .before .before .before) in
+    let long = ap length (after-tracers (c .before .before)) ∙ tracers-long (c .before .before .before .before .before .before .before .before .before .before .before .before .before .before .before .before .args .shape) (c .before .before .before .before .before .before .before .before .before .before .before .before .before .before .before .before .args .field .now) (c .before .before .before .before .before .before .before .before .before .before .before .before .before .before .before .before .args .wind .now) (c .before .before .before .before .before .before .before .before .before .before .before .before .before .before .before .before .args .file .now) (c .before .before .before .before .before .before .before .before .before .before .before .before .before .before .before .before .pre .1 .0) in
+    omega (arith, long)
+
+write-table-requires : tie.Need-write-table-requires
+write-table-requires c κs =
+    let p = places (c .before .before .before .before .before .before .before .before .before .before) in
+    let b = c .before .before .before .before .before .before .before .before .before .before .before .before .before .before .before .before .before in
+    let long = ap length (after-tracers (c .before .before .before)) ∙ tracers-long (c .before .before .before .before .before .before .before .before .before .before .before .before .before .before .before .before .before .args .shape) (c .before .before .before .before .before .before .before .before .before .before .before .before .before .before .before .before .before .args .field .now) (c .before .before .before .before .before .before .before .before .before .before .before .before .before .before .before .before .before .args .wind .now) (c .before .before .before .before .before .before .before .before .before .before .before .before .before .before .before .before .before .args .file .now) (c .before .before .before .before .before .before .before .before .before .before .before .before .before .before .before .before .before .pre .1 .0) in
+    let t = c .before .before .before .before .before .before .before .before .before .before .before .before .table-start .result in
+    let k = 4 * (b .args .shape .tracers + 1) in
+    (b .pre .0, omega (arith, part-size k t (t + k - t) (c .before .before .before .write-tracers .last .0) (add-sub-cancel-left t k) (omega (arith, long))))
+
+sub-write-tail : tie.Need-sub-write-tail
+sub-write-tail c = let p = places (c .before .before .before .before .before .before .before .before .before .before .before .before .before) in omega arith
+
+part-write-tail-start : tie.Need-part-write-tail-start
+part-write-tail-start c = let p = places (c .before .before .before .before .before .before .before .before .before .before .before .before .before) in omega arith
+
+part-write-tail-end : tie.Need-part-write-tail-end
+part-write-tail-end c = search needs
+
+write-tail-requires : tie.Need-write-tail-requires
+write-tail-requires c κs =
+    let p = places (c .before .before .before .before .before .before .before .before .before .before .before .before .before .before) in
+    let b = c .before .before .before .before .before .before .before .before .before .before .before .before .before .before .before .before .before .before .before .before .before in
+    let t = c .before .before .before .before .before .before .before .before .before .before .before .before .before .before .before .before .table-start .result + 4 * (b .args .shape .tracers + 1) in
+    let e = c .before .before .before .before .before .before .before .before .before .before .before .before .before .before .file-length .result in
+    let long = ap length (after-table (c .before .before .before)) ∙ table-long (c .before .before .before .before .before .before .before .before .before .before .before .before .before .before .before .before .before .before .before .before .before .args .shape) (c .before .before .before .before .before .before .before .before .before .before .before .before .before .before .before .before .before .before .before .before .before .args .field .now) (c .before .before .before .before .before .before .before .before .before .before .before .before .before .before .before .before .before .before .before .before .before .args .wind .now) (c .before .before .before .before .before .before .before .before .before .before .before .before .before .before .before .before .before .before .before .before .before .args .file .now) (c .before .before .before .before .before .before .before .before .before .before .before .before .before .before .before .before .before .before .before .before .before .pre .1 .0) in
+    (b .pre .0, part-size 12 t (e - t) _ (omega arith) (omega (arith, long)))
+
+same-length : tie.Need-same-length
+same-length c = search needs
+
+returns : tie.Need-returns
+returns c =
+    let b = c .before .before .before .before .before .before .before .before .before .before .before .before .before .before .before .before .before .before .before .before .before .before .before .before in
+    let g = b .args .shape in
+    let t = c .before .before .before .before .before .before .before .before .before .before .before .before .before .before .before .before .before .before .before .table-start in
+    let e = c .before .before .before .before .before .before .before .before .before .before .before .before .before .before .before .before .before .file-length in
+    tail-made g (b .args .field .now) (b .args .wind .now) (b .args .file .now) (b .pre .1 .0) (t .result + 4 * (g .tracers + 1)) (e .result) (c .before .before .write-tail .last .0) _
+    (ap (λ n. n + 4 * (g .tracers + 1)) (t .ensures)) (e .ensures) (after-table (c .before .before .before .before .before .before)) (c .before .before .write-tail .ensures)
+
+pub write-parts-spec : {M : Type 1} → statement M
+write-parts-spec = tie.close (tie.spec section-start-requires section-start-requires-2 table-start-requires add-tail mul-tail add-tail-2 file-length-requires sub-write-winds part-write-winds-start part-write-winds-end faces-requires write-winds-requires write-tracers-requires sub-write-table part-write-table-start part-write-table-end write-table-requires sub-write-tail part-write-tail-start part-write-tail-end write-tail-requires same-length returns)

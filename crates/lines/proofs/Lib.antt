@@ -1,0 +1,2 @@
+-- Laws of a row of face lines.
+pub mod RowLaws

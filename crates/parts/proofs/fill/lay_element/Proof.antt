@@ -1,0 +1,65 @@
+use mathlib.Core.Path.{_≡_, refl, sym, ap, _∙_}
+use mathlib.Core.List.{_++_, [], _∷_}
+use Prim.Native.Nat.{_≤_, _<_, _-_, _*_, _+_}
+use borrow.Author.Needs.{needs}
+use native.Mathlib.Omega.{arith}
+use native.Mathlib.Nat.{zero-add}
+use lib.ListN.{length, getD, drop, length-set}
+use Rattle.whole.specs.Table.{table}
+use Rattle.whole.proofs.TableLaws.{fill-more, fill-last, table-cong}
+use Rattle.rules.specs.Calls.{loadedValue, loadedElement}
+use Rattle.rules.specs.Field.{quadratic}
+use Rattle.parts.proofs.fill.lay_element.Statement.{statement}
+use Rattle.parts.proofs.fill.lay_element.Tie as tie
+
+abbrev Inv-loop : tie.InvT-loop
+Inv-loop part₀ numbers k₀ part k = (k ≤ 9) × (length part ≡ 10) × (part ≡ table k (λ i. getD numbers i 0) ++ drop k part₀)
+
+abbrev μ-loop : tie.MeasureT-loop
+μ-loop part₀ numbers k₀ part k = 9 - k
+
+loop-holds : tie.Need-loop-holds Inv-loop μ-loop
+unfolding table
+loop-holds c = (omega arith, c .pre .0, refl)
+
+mul-part : tie.Need-mul-part Inv-loop μ-loop
+mul-part c = search needs
+
+shared-slice-read-part : tie.Need-shared-slice-read-part Inv-loop μ-loop
+shared-slice-read-part c = search needs
+
+mul-part-2 : tie.Need-mul-part-2 Inv-loop μ-loop
+mul-part-2 c = search needs
+
+slice-write-part : tie.Need-slice-write-part Inv-loop μ-loop
+slice-write-part c = search needs
+
+add-k : tie.Need-add-k Inv-loop μ-loop
+add-k c = search needs
+
+loop-less : tie.Need-loop-less Inv-loop μ-loop
+loop-less c = search needs
+
+loop-again : tie.Need-loop-again Inv-loop μ-loop
+loop-again c =
+    let l = c .before .before .loop in
+    let a = c .before .before .before .args in
+    let h : l .k < length (a .part .now) = omega (arith, c .before .before .before .pre .0) in
+    (omega arith, rw length-set (l .inv .1), rw (l .inv .2) (fill-more (l .k) (λ i. getD (a .numbers .now) i 0) (a .part .now) h))
+
+slice-write-part-2 : tie.Need-slice-write-part-2 Inv-loop μ-loop
+slice-write-part-2 c = omega (arith, c .before .loop .inv .1)
+
+same-length : tie.Need-same-length Inv-loop μ-loop
+same-length c = rw length-set (c .before .loop .inv .1 ∙ sym (c .before .before .pre .0))
+
+returns : tie.Need-returns Inv-loop μ-loop
+unfolding loadedElement loadedValue quadratic
+returns c =
+    let a = c .before .before .args in
+    let e : c .before .loop .k ≡ 9 = omega arith in
+    rw (c .before .loop .inv .2, e) (fill-last 9 (λ i. getD (a .numbers .now) i 0) (a .part .now) 0 (c .before .before .pre .0))
+    ∙ ap (λ t. t ++ (0 ∷ [])) (table-cong 9 (λ i. getD (a .numbers .now) i 0) (λ i. getD (a .numbers .now) (0 * 9 + i) 0) (λ i _. ap (λ n. getD (a .numbers .now) n 0) (sym (zero-add i))))
+
+pub lay-element-spec : {M : Type 1} → statement M
+lay-element-spec = tie.close (tie.spec Inv-loop μ-loop loop-holds mul-part shared-slice-read-part mul-part-2 slice-write-part add-k loop-less loop-again slice-write-part-2 same-length returns)

@@ -1,0 +1,21 @@
+-- A shape no larger than an admitted one, and where numbers stand.
+use Prim.Native.Nat.{ℕ, _+_, _*_, _≤_, _<_}
+use Rattle.rules.specs.declared.Shape.{Shape}
+use Rattle.rules.specs.Field.{quadratic, element, elementLength, tracerLength}
+
+-- a shape whose numbers are not too large
+pub record Sized (g : Shape) : Type 0 where
+  pub nx : g .nx ≤ 64
+  pub ny : g .ny ≤ 64
+  pub tracers : g .tracers ≤ 8
+
+-- element (i, j) of a tracer that is there
+pub record Inside (g : Shape) (s i j : ℕ) : Type 0 where
+  pub sized : Sized g
+  pub tracer : s < g .tracers
+  pub column : i < g .nx
+  pub row : j < g .ny
+
+-- where element (i, j) of tracer s starts in the field
+unfoldable pub elementStart : Shape → ℕ → ℕ → ℕ → ℕ
+elementStart g s i j = s * tracerLength quadratic g + element g i j * elementLength quadratic

@@ -1,0 +1,2 @@
+-- What the search of a tracer's part answers.
+pub mod Search
