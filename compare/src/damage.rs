@@ -55,11 +55,10 @@ fn near_limit(rng: &mut Rng, file: &mut [u8], shape: Shape) {
     let start = shape.section_offset(rng.index(shape.k));
     let number_at = |n: usize| number(file, start + 4 * n);
     let part: Vec<u32> = (0..shape.smoke_len()).map(number_at).collect();
-    let Some(left) = LIMIT.checked_sub(content::total(&part)) else {
-        return;
-    };
-    let first = part[0] + left as u32 + rng.index(2) as u32;
-    put(file, start, &first.to_le_bytes());
+    if let Some(left) = LIMIT.checked_sub(content::total(&part)) {
+        let first = part[0] + left as u32 + rng.index(2) as u32;
+        put(file, start, &first.to_le_bytes());
+    }
 }
 
 fn tail_damage(rng: &mut Rng, file: &mut [u8], shape: Shape) {

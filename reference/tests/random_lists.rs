@@ -127,7 +127,7 @@ fn other_smokes_can_be_struck() {
         for kept in 0..k {
             let mut state = State::new(nx, ny, k);
             for (call, answer) in all.iter().zip(&answers) {
-                if smoke_of(call).is_none_or(|smoke| smoke == kept) {
+                if smoke_of(call).map_or(true, |smoke| smoke == kept) {
                     assert_eq!(state.run(call), *answer);
                 }
             }

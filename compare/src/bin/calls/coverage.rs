@@ -34,8 +34,9 @@ pub struct Coverage {
 impl Coverage {
     /// Looks at an accepted step, once in four into its stages.
     pub fn step(&mut self, rng: &mut Rng, call: &Call, before: &Buffers, after: &Buffers) {
-        let Operation::Step(smoke) = call.operation else {
-            return;
+        let smoke = match call.operation {
+            Operation::Step(smoke) => smoke,
+            _ => return,
         };
         let shape = Shape {
             nx: call.grid.nx,
@@ -94,7 +95,7 @@ impl Met {
         let is_cut = |face: usize| amounts[face] != limited[face];
         let together = |face: usize| {
             let giver = donor(winds.shape, face, amounts[face]);
-            let old = giver.is_some_and(|e| part[PER_ELEMENT * e + NODES] > 0);
+            let old = giver.map_or(false, |e| part[PER_ELEMENT * e + NODES] > 0);
             is_cut(face) && old && upwind_below_zero(&winds, &stages, face)
         };
         let faces = 0..amounts.len();

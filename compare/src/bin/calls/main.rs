@@ -85,9 +85,12 @@ fn arguments() -> Option<(u64, u64)> {
 }
 
 fn main() -> ExitCode {
-    let Some((count, seed)) = arguments() else {
-        eprintln!("usage: calls [COUNT [SEED]]");
-        return ExitCode::from(2);
+    let (count, seed) = match arguments() {
+        Some(given) => given,
+        None => {
+            eprintln!("usage: calls [COUNT [SEED]]");
+            return ExitCode::from(2);
+        }
     };
     let mut run = Run {
         trace: std::env::var_os("COMPARE_TRACE").is_some(),

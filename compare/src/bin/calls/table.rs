@@ -30,10 +30,10 @@ impl Table {
     pub fn count(&mut self, call: &Call, answer: i64) -> Result<(), String> {
         let (kind, refusal) = (call.kind(), call.refusal(answer));
         let known = usize::try_from(refusal).ok().filter(|&n| may(kind, n));
-        let Some(number) = known else {
+        let number = known.ok_or_else(|| {
             let name = KINDS[kind];
-            return Err(format!("{name} must never be refused with {refusal}"));
-        };
+            format!("{name} must never be refused with {refusal}")
+        })?;
         self.met[kind][number] += 1;
         self.calls += 1;
         Ok(())

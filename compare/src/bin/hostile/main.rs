@@ -161,9 +161,12 @@ fn arguments() -> Option<(PathBuf, PathBuf, u64, u64)> {
 }
 
 fn main() -> ExitCode {
-    let Some((program, samples, count, seed)) = arguments() else {
-        eprintln!("usage: hostile PROGRAM SAMPLES [COUNT [SEED]]");
-        return ExitCode::from(2);
+    let (program, samples, count, seed) = match arguments() {
+        Some(given) => given,
+        None => {
+            eprintln!("usage: hostile PROGRAM SAMPLES [COUNT [SEED]]");
+            return ExitCode::from(2);
+        }
     };
     let mut hostile = Hostile {
         program: Program::new(&program).expect("temporary files can be made"),
