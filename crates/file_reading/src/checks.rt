@@ -20,12 +20,12 @@ fn offsets_right(file: &[u8], shape: Shape) -> bool
         return false;
     }
     let table = file_layout::table_start(shape);
-    if sections::number32(file, n - 8) as usize != table {
+    if little_endian::number32(file, n - 8) as usize != table {
         return false;
     }
     let count = shape.tracers + 1;
     for i in 0..count {
-        if sections::number32(file, table + 4 * i) as usize
+        if little_endian::number32(file, table + 4 * i) as usize
             != file_layout::section_start(shape, i)
         {
             return false;

@@ -22,7 +22,7 @@ use Rattle.rules.specs.declared.Reading.the-variants as Reading
 use Rattle.rules.specs.Answers.{number, reading}
 use Rattle.searches.proofs.SearchLaws.{searched-yes, searched-no}
 use Rattle.places.proofs.PlaceLaws.{tracer-room, field-is, field-le}
-use Rattle.sections.proofs.SectionLaws.{stored-4}
+use Rattle.little_endian.proofs.ByteLaws.{stored-4}
 use Rattle.file_layout.proofs.FileLaws.{shapeBytes}
 use Rattle.file_layout.proofs.NumberLaws.{code32}
 use Rattle.whole.proofs.ListParts.{blocks-split, overwrite-next, part-written, overwritten}

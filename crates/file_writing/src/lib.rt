@@ -42,7 +42,7 @@ fn write_table(table: &mut [u8], shape: Shape)
 {
     let n = shape.tracers + 1;
     for i in 0..n {
-        sections::put32(table, 4 * i, file_layout::section_start(shape, i) as u32);
+        little_endian::put32(table, 4 * i, file_layout::section_start(shape, i) as u32);
     }
 }
 
@@ -56,7 +56,7 @@ fn write_tail(out: &mut [u8], shape: Shape)
     out[1] = shape.ny as u8;
     out[2] = shape.tracers as u8;
     out[3] = 0;
-    sections::put32(out, 4, file_layout::table_start(shape) as u32);
+    little_endian::put32(out, 4, file_layout::table_start(shape) as u32);
     out[8] = MARK[0];
     out[9] = MARK[1];
     out[10] = MARK[2];

@@ -24,7 +24,7 @@ pub fn tracer_sound(section: &[u8], shape: Shape) -> bool
     'rows: for j in 0..ny {
         'elements: for i in 0..nx {
             'numbers: for v in 0..10 {
-                let x = super::number32(section, 4 * (start + v)) as u64;
+                let x = little_endian::number32(section, 4 * (start + v)) as u64;
                 if v == 9 {
                     if 35 < x {
                         sound = false;

@@ -1,7 +1,7 @@
 use native.Mathlib.Omega.{arith}
-use Rattle.sections.proofs.SectionLaws.{Below, Above, below, above}
-use Rattle.sections.proofs.bits16.Statement.{statement}
-use Rattle.sections.proofs.bits16.Tie as tie
+use Rattle.little_endian.proofs.ByteLaws.{Below, Above, below, above}
+use Rattle.little_endian.proofs.bits16.Statement.{statement}
+use Rattle.little_endian.proofs.bits16.Tie as tie
 
 -- the sign of x
 low : (c : tie.Then1) → Below (c .before .args .x)

@@ -1,8 +1,8 @@
 use native.Mathlib.Omega.{arith}
 use borrow.Author.Needs.{needs}
-use Rattle.sections.proofs.SectionLaws.{high, number-low, number-high}
-use Rattle.sections.proofs.number16.Statement.{statement}
-use Rattle.sections.proofs.number16.Tie as tie
+use Rattle.little_endian.proofs.ByteLaws.{high, number-low, number-high}
+use Rattle.little_endian.proofs.number16.Statement.{statement}
+use Rattle.little_endian.proofs.number16.Tie as tie
 
 shared-slice-read-joined16 : tie.Need-shared-slice-read-joined16
 shared-slice-read-joined16 c = search needs

@@ -1,7 +1,7 @@
 use Rattle.rules.specs.FieldFile.{number32}
 use borrow.Author.Needs.{needs}
-use Rattle.sections.proofs.number32.Statement.{statement}
-use Rattle.sections.proofs.number32.Tie as tie
+use Rattle.little_endian.proofs.number32.Statement.{statement}
+use Rattle.little_endian.proofs.number32.Tie as tie
 
 shared-slice-read-joined32 : tie.Need-shared-slice-read-joined32
 shared-slice-read-joined32 c = search needs

@@ -4,9 +4,9 @@ use borrow.Author.Needs.{needs}
 use lib.ListN.{length-set}
 use mir.Facts.{toZ-ofZ}
 use Rattle.rules.specs.FieldFile.{bits16, bytes16}
-use Rattle.sections.proofs.SectionLaws.{stored-2}
-use Rattle.sections.proofs.put16.Statement.{statement}
-use Rattle.sections.proofs.put16.Tie as tie
+use Rattle.little_endian.proofs.ByteLaws.{stored-2}
+use Rattle.little_endian.proofs.put16.Statement.{statement}
+use Rattle.little_endian.proofs.put16.Tie as tie
 
 bits16-requires : tie.Need-bits16-requires
 bits16-requires c κs = search needs

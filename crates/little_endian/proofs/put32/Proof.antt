@@ -2,9 +2,9 @@ use native.Mathlib.Omega.{arith}
 use borrow.Author.Needs.{needs}
 use lib.ListN.{length-set}
 use Rattle.rules.specs.FieldFile.{bytes32}
-use Rattle.sections.proofs.SectionLaws.{stored-4}
-use Rattle.sections.proofs.put32.Statement.{statement}
-use Rattle.sections.proofs.put32.Tie as tie
+use Rattle.little_endian.proofs.ByteLaws.{stored-4}
+use Rattle.little_endian.proofs.put32.Statement.{statement}
+use Rattle.little_endian.proofs.put32.Tie as tie
 
 cast-out : tie.Need-cast-out
 cast-out c = search needs

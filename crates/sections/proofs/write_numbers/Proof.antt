@@ -7,7 +7,8 @@ use borrow.Author.Needs.{needs}
 use lib.ListN.{length, getD, drop}
 use Rattle.whole.specs.Table.{blocks}
 use Rattle.rules.specs.FieldFile.{bytes32}
-use Rattle.sections.proofs.SectionLaws.{length-bytes32, write-next, written}
+use Rattle.little_endian.proofs.ByteLaws.{length-bytes32}
+use Rattle.sections.proofs.SectionLaws.{write-next, written}
 use Rattle.sections.proofs.write_numbers.Statement.{statement}
 use Rattle.sections.proofs.write_numbers.Tie as tie
 

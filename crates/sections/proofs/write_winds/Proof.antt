@@ -10,7 +10,8 @@ use mir.Facts.{toZ-ofZ}
 use Rattle.whole.specs.Table.{blocks, overwrite}
 use Rattle.rules.specs.Calls.{windAt}
 use Rattle.rules.specs.FieldFile.{bytes16}
-use Rattle.sections.proofs.SectionLaws.{length-bytes16, write-next, written}
+use Rattle.little_endian.proofs.ByteLaws.{length-bytes16}
+use Rattle.sections.proofs.SectionLaws.{write-next, written}
 use Rattle.sections.proofs.write_winds.Statement.{statement}
 use Rattle.sections.proofs.write_winds.Tie as tie
 

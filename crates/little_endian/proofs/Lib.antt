@@ -1,0 +1,2 @@
+-- Laws that the proofs of the numbers cite.
+pub mod ByteLaws
