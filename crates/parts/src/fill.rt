@@ -24,8 +24,8 @@ pub fn clear_wind(winds: &mut [i16], n: usize)
     requires { ⌜ n ≤ length (now winds) ⌝ }
     ensures { λ _. ⌜ now (winds .exit) ≡ overwrite 0 (replicate n (pos 0)) (now (winds .entry)) ⌝ }
 {
-    for k in 0..n {
-        winds[k] = 0;
+    for f in 0..n {
+        winds[f] = 0;
     }
 }
 

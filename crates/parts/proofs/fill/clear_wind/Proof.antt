@@ -12,10 +12,10 @@ use Rattle.parts.proofs.fill.clear_wind.Statement.{statement}
 use Rattle.parts.proofs.fill.clear_wind.Tie as tie
 
 abbrev Inv-loop : tie.InvT-loop
-Inv-loop winds₀ n k₀ winds k = (k ≤ n) × (length winds ≡ length winds₀) × (winds ≡ table k (λ i. pos 0) ++ drop k winds₀)
+Inv-loop winds₀ n f₀ winds f = (f ≤ n) × (length winds ≡ length winds₀) × (winds ≡ table f (λ i. pos 0) ++ drop f winds₀)
 
 abbrev μ-loop : tie.MeasureT-loop
-μ-loop winds₀ n k₀ winds k = n - k
+μ-loop winds₀ n f₀ winds f = n - f
 
 loop-holds : tie.Need-loop-holds Inv-loop μ-loop
 unfolding table
@@ -27,8 +27,8 @@ mul-winds c = search needs
 slice-set-of-winds : tie.Need-slice-set-of-winds Inv-loop μ-loop
 slice-set-of-winds c = search needs
 
-add-k : tie.Need-add-k Inv-loop μ-loop
-add-k c = search needs
+add-f : tie.Need-add-f Inv-loop μ-loop
+add-f c = search needs
 
 loop-less : tie.Need-loop-less Inv-loop μ-loop
 loop-less c = search needs
@@ -37,8 +37,8 @@ loop-again : tie.Need-loop-again Inv-loop μ-loop
 loop-again c =
     let l = c .before .loop in
     let o = c .before .before .args .winds .now in
-    let h : l .k < length o = omega arith in
-    (omega arith, rw length-set (l .inv .1), rw (l .inv .2) (fill-more (l .k) (λ i. pos 0) o h))
+    let h : l .f < length o = omega arith in
+    (omega arith, rw length-set (l .inv .1), rw (l .inv .2) (fill-more (l .f) (λ i. pos 0) o h))
 
 same-length : tie.Need-same-length Inv-loop μ-loop
 same-length c = c .before .loop .inv .1
@@ -46,8 +46,8 @@ same-length c = c .before .loop .inv .1
 returns : tie.Need-returns Inv-loop μ-loop
 returns c =
     let a = c .before .before .args in
-    let e : c .before .loop .k ≡ a .n = omega arith in
+    let e : c .before .loop .f ≡ a .n = omega arith in
     (rw e at (c .before .loop .inv .2)) ∙ filled-front (a .n) (λ i. pos 0) (a .winds .now) ∙ ap (λ y. overwrite 0 y (a .winds .now)) (table-const (a .n) (pos 0))
 
 pub clear-wind-spec : {M : Type 1} → statement M
-clear-wind-spec = tie.close (tie.spec Inv-loop μ-loop loop-holds mul-winds slice-set-of-winds add-k loop-less loop-again same-length returns)
+clear-wind-spec = tie.close (tie.spec Inv-loop μ-loop loop-holds mul-winds slice-set-of-winds add-f loop-less loop-again same-length returns)
