@@ -19,8 +19,9 @@ pub record Given : Type 0 where
   pub report : List ℤ
 
 module _ (g : Shape) (b : Buffers) where
-  -- the contracts of `field::wind`, `field::load`, `emission`, `withdrawal` and `transport::step`, for a call made at state x with a
-  -- report and a work of the lengths b
+  -- what the `ensures` lines of `field::wind`, `load`, `emission`, `withdrawal` and `transport::step` say, written out again for a call made
+  -- at state x with a report and a work of the lengths b; and that a call leaves alone what it isn't lent for writing: "between calls nothing
+  -- else writes to field or wind"
   abbrev pub Contract : Call → State → Given → Type 0
   Contract (windCall f) x d = (outcome (d .answer) ≡ windReply g f (x .wind)) × (d .state .wind ≡ windAfter g f (x .wind)) × (d .state .field ≡ x .field)
   Contract (on s op) x d =

@@ -134,7 +134,7 @@ pub extern "C" fn plume_step(
     ensures { λ r. ⌜ r ≡ code (stepCall quadratic (shapeOf nx ny smokes) smoke (now (field .entry)) (now (wind .entry)) (now (report .entry)) (now (work .entry)) .reply) ⌝ }
     ensures { λ _. ⌜ now (field .exit) ≡ stepCall quadratic (shapeOf nx ny smokes) smoke (now (field .entry)) (now (wind .entry)) (now (report .entry)) (now (work .entry)) .field ⌝ }
     ensures { λ _. ⌜ now (report .exit) ≡ reportAfter (stepCall quadratic (shapeOf nx ny smokes) smoke (now (field .entry)) (now (wind .entry)) (now (report .entry)) (now (work .entry)) .reply) (now (report .entry)) ⌝ }
-    ensures { λ _. ⌜ WorkAfter (stepCall quadratic (shapeOf nx ny smokes) smoke (now (field .entry)) (now (wind .entry)) (now (report .entry)) (now (work .entry)) .reply) (now (work .entry)) (now (work .exit)) ⌝ }
+    ensures { λ _. ⌜ WorkAfter (shapeOf nx ny smokes) (stepCall quadratic (shapeOf nx ny smokes) smoke (now (field .entry)) (now (wind .entry)) (now (report .entry)) (now (work .entry)) .reply) (now (work .entry)) (now (work .exit)) ⌝ }
 {
     let shape = Shape {
         nx,

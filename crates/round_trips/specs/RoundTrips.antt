@@ -29,7 +29,7 @@ pub record ReadIsWritten (κ : Kind) (g : Shape) (file field : List ℕ) (wind :
   pub size : writeReply κ g (readField κ file field wind) (readWind κ file field wind) out ≡ accepted (length file)
   pub bytes : writeFile κ g (readField κ file field wind) (readWind κ file field wind) out ≡ overwrite 0 file out
 
--- ---- over the calls: what the contract of each says of its answer r and of its buffers at exit
+-- ---- over the calls: what the `ensures` lines of each say of its answer r and of its buffers at exit, written out again
 -- `write` of shape g with `field` and `wind` into `file`, which is `file′` at exit
 pub record Wrote (g : Shape) (field : List ℕ) (wind : List ℤ) (file : List ℕ) (r : Reading) (file′ : List ℕ) : Type 0 where
   pub answers : reading r ≡ writeReply quadratic g field wind file

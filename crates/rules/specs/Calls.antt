@@ -5,7 +5,7 @@ use mathlib.Core.List.{List, [], _∷_, _++_}
 use Prim.Native.Nat.{ℕ, _+_, _*_, _-_}
 use lib.Dec.{leb, ltb}
 use lib.IntN.{ℤ, pos, natAbs}
-use lib.ListN.{length, getD, set, replicate}
+use lib.ListN.{length, getD, set, replicate, drop}
 use Rattle.whole.specs.Sum.{all}
 use Rattle.whole.specs.Table.{table, blocks, overwrite}
 use Rattle.rules.specs.declared.Shape.{Shape}
@@ -177,10 +177,11 @@ unfolding overwrite
 reportAfter (accepted r) old = overwrite 0 r old
 reportAfter (refused n) old = old
 
--- work after a step: "An accepted step leaves work free: any content", of the same length; a refused one leaves it as it was
-abbrev pub WorkAfter : Answer (List ℤ) → List ℤ → List ℤ → Type 0
-WorkAfter (accepted r) old new = length new ≡ length old
-WorkAfter (refused n) old new = new ≡ old
+-- work after a step on a shape g: "An accepted step leaves work free: any content" in the numbers that are needed, and "Surplus is left
+-- alone"; a refused one leaves it as it was
+abbrev pub WorkAfter : Shape → Answer (List ℤ) → List ℤ → List ℤ → Type 0
+WorkAfter g (accepted r) old new = (length new ≡ length old) × (drop (workNeeded g) new ≡ drop (workNeeded g) old)
+WorkAfter g (refused n) old new = new ≡ old
 
 module _ (g : Shape) where
   -- "Wind: one face (east or north, i, j) gets a new C."

@@ -7,6 +7,7 @@ use native.Mathlib.Omega.{arith}
 use lib.Dec.{T, leb, ltb, leb→le, ltb→lt}
 use lib.IntN.{ℤ, natAbs}
 use lib.ListN.{length, take, drop}
+use lib.Seq.{drop-at}
 use Rattle.whole.specs.Table.{overwrite}
 use Rattle.whole.proofs.Cases.{both-yes}
 use Rattle.whole.proofs.SumLaws.{all-at}
@@ -131,11 +132,12 @@ pub report-accepted : (a : Answer (List ℤ)) (r old : List ℤ) → a ≡ accep
 unfolding reportAfter
 report-accepted a r old e = sym (ap (λ x. reportAfter x old) e)
 
-pub work-refused : (a : Answer (List ℤ)) (n : ℕ) (old : List ℤ) → a ≡ refused n → WorkAfter a old old
-work-refused a n old e = subst (λ x. WorkAfter x old old) (sym e) refl
+pub work-refused : (g : Shape) (a : Answer (List ℤ)) (n : ℕ) (old : List ℤ) → a ≡ refused n → WorkAfter g a old old
+work-refused g a n old e = subst (λ x. WorkAfter g x old old) (sym e) refl
 
-pub work-accepted : (a : Answer (List ℤ)) (r old new : List ℤ) → a ≡ accepted r → length new ≡ length old → WorkAfter a old new
-work-accepted a r old new e h = subst (λ x. WorkAfter x old new) (sym e) h
+-- the numbers that are needed were lent and came back as x; the rest is the old surplus
+pub work-accepted : (g : Shape) (a : Answer (List ℤ)) (r old x new : List ℤ) → a ≡ accepted r → new ≡ x ++ drop (workNeeded g) old → length x ≡ workNeeded g → length new ≡ length old → WorkAfter g a old new
+work-accepted g a r old x new e q l h = subst (λ y. WorkAfter g y old new) (sym e) (h, ap (drop (workNeeded g)) q ∙ drop-at x (drop (workNeeded g) old) (workNeeded g) l)
 
 -- the part that was lent and written, back in its place
 pub part-back : (g : Shape) (s at k : ℕ) (x new f : List ℕ) → at ≡ s * tracerLength quadratic g → k ≡ tracerLength quadratic g → x ≡ new → length new ≡ tracerLength quadratic g

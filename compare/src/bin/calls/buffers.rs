@@ -55,8 +55,8 @@ impl<T: Copy + PartialEq + Debug> Buffer<T> {
         self.count = other.count;
     }
 
-    pub fn copy_lent_from(&mut self, other: &Buffer<T>) {
-        self.lent_mut().copy_from_slice(other.lent());
+    pub fn copy_front_from(&mut self, other: &Buffer<T>, count: usize) {
+        self.lent_mut()[..count].copy_from_slice(&other.lent()[..count]);
     }
 
     /// Says where this buffer and another first differ, counted from the first lent number.

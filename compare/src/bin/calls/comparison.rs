@@ -40,8 +40,9 @@ impl Comparison {
             return Err(format!("a file just written or read was refused: {answer}"));
         }
         if let (Operation::Step(_), false) = (call.operation, refused) {
-            // "An accepted step leaves work free: any content"; what was not lent is not free.
-            self.theirs.work.copy_lent_from(&self.ours.work);
+            // "An accepted step leaves work free: any content", and "Surplus is left alone".
+            let needed = 64 * call.grid.nx * call.grid.ny;
+            self.theirs.work.copy_front_from(&self.ours.work, needed);
         }
         self.same(refused, expected, answer)?;
         Ok(answer)
