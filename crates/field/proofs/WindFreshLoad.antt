@@ -3,7 +3,6 @@ use mathlib.Core.Path.{_≡_, refl, sym, subst, _∙_}
 use mathlib.Core.Bool.{true, false}
 use mathlib.Core.List.{List, _++_}
 use Prim.Native.Nat.{ℕ, _*_, _≤_, _<_}
-use native.Mathlib.Omega.{arith}
 use borrow.Author.Tests.{lt-leb, le-leb, lt-ltb, le-ltb}
 use lib.Dec.{T, ltb, ltb→lt}
 use lib.IntN.{ℤ, pos}
@@ -14,8 +13,6 @@ use Rattle.whole.proofs.Cases.{both-yes}
 use Rattle.whole.proofs.SumLaws.{sum-cong}
 use Rattle.rules.specs.declared.Shape.{Shape}
 use Rattle.rules.specs.declared.Face.{Face}
-use Rattle.rules.specs.declared.Way.{Way}
-use Rattle.rules.specs.declared.Way.the-variants.{East, North}
 use Rattle.rules.specs.Answers.{Answer, accepted, refused, answer, after, plain}
 use Rattle.rules.specs.Field.{quadratic, admitted, elements, faces, onGrid, tracerLength, fieldLength, withPart, weighted, mass, total, limit}
 use Rattle.rules.specs.Grid.{faceIndex}
@@ -23,7 +20,7 @@ use Rattle.rules.specs.Calls.{windInRange, windReply, windAfter, freshReply, fr
 use Rattle.rules.proofs.FieldLaws.{ranges}
 use Rattle.rules.proofs.PartLaws.{mass-loaded, length-loaded}
 use Rattle.places.specs.Places.{Sized, Inside}
-use Rattle.places.proofs.PlaceLaws.{sized, element-lt}
+use Rattle.places.proofs.PlaceLaws.{sized}
 
 module _ (g : Shape) where
   pub sized-of : admitted g ≡ true → Sized g
@@ -33,10 +30,6 @@ module _ (g : Shape) where
   inside-of i j a o =
       let t = both-yes (ltb i (g .nx)) (ltb j (g .ny)) (subst T (sym o) tt) in
       record { sized = sized-of a; tracer = ranges g (subst T (sym a) tt) .tracers-above; column = ltb→lt _ _ (t .0); row = ltb→lt _ _ (t .1) }
-
-  pub face-lt : (way : Way) (i j : ℕ) → Inside g 0 i j → faceIndex g way i j < faces g
-  face-lt East i j h = omega (arith, element-lt g i j (h .column) (h .row))
-  face-lt North i j h = omega (arith, element-lt g i j (h .column) (h .row))
 
 -- ---- wind
 module _ (g : Shape) (f : Face) (w : List ℤ) where

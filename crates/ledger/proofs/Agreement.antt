@@ -18,7 +18,7 @@ use Rattle.rules.specs.Answers.{Answer, accepted, refused}
 use Rattle.rules.specs.Field.{Kind, elements, elementLength, tracerLength, fieldLength, part, withPart, cell, remainder, weighted, mass, total, weightSum}
 use Rattle.rules.specs.Calls.{Operation, load, emission, withdrawal, step, Lent, call, done, zeroField}
 use Rattle.rules.specs.Ledger.{entry}
-use Rattle.rules.proofs.PartLaws.{Good, part-length}
+use Rattle.rules.proofs.PartLaws.{node-lt, Good, part-length}
 use Rattle.rules.proofs.LedgerLaws.{entry-cong}
 use Rattle.rules.proofs.CallLaws.{Kept, operation-law}
 use Rattle.rules.proofs.FieldLaws.{Accepted, call-ind}
@@ -128,20 +128,16 @@ module _ (κ : Kind) (g : Shape) (hw : 0 < weightSum κ) (field : List ℕ) (win
       getD-take (tracerLength κ g) (drop (s * tracerLength κ g) zeros) (e * elementLength κ + k) 0 at
       ∙ getD-drop (s * tracerLength κ g) zeros (e * elementLength κ + k) 0 ∙ zero-at (s * tracerLength κ g + (e * elementLength κ + k)) (omega (arith, part-room (tracerLength κ g) hs))
 
-  node-lt : (k : ℕ) → k ≤ κ .nodes → k < elementLength κ
-  unfolding elementLength
-  node-lt k h = omega arith
-
   zero-mass : (s e : ℕ) → s < g .tracers → e < elements g → mass κ (part κ g s zeros) e ≡ 0
   unfolding mass weighted remainder
   zero-mass s e hs he = ap₂ _+_ (sum-zero (κ .nodes) (λ k. κ .weight k * cell κ (part κ g s zeros) e k)
-      (λ k l. ap (λ x. κ .weight k * x) (zero-cell s e k hs he (node-lt k (omega arith))) ∙ mul-zero (κ .weight k))) (zero-cell s e (κ .nodes) hs he (node-lt (κ .nodes) (omega arith)))
+      (λ k l. ap (λ x. κ .weight k * x) (zero-cell s e k hs he (node-lt κ k (omega arith))) ∙ mul-zero (κ .weight k))) (zero-cell s e (κ .nodes) hs he (node-lt κ (κ .nodes) (omega arith)))
 
   zero-good : (s : ℕ) → s < g .tracers → Good κ g (part κ g s zeros)
   unfolding total remainder
   zero-good s hs = record {
     size = part-length κ g s zeros hs (subst (λ x. fieldLength κ g ≤ x) (sym zeros-length) room);
-    small = λ e he. subst (λ x. x < weightSum κ) (sym (zero-cell s e (κ .nodes) hs he (node-lt (κ .nodes) (omega arith)))) hw;
+    small = λ e he. subst (λ x. x < weightSum κ) (sym (zero-cell s e (κ .nodes) hs he (node-lt κ (κ .nodes) (omega arith)))) hw;
     bounded = omega (arith, sum-zero (elements g) (mass κ (part κ g s zeros)) (λ e he. zero-mass s e hs he));
   }
 

@@ -1,5 +1,5 @@
 -- Demand 3, one statement over every list of calls.
-use mathlib.Core.Path.{_≡_, refl, sym, subst}
+use mathlib.Core.Path.{refl, sym, subst}
 use mathlib.Core.List.{List}
 use Prim.Native.Nat.{ℕ, _≤_, _<_}
 use native.Mathlib.Omega.{arith}
@@ -8,6 +8,7 @@ use lib.ListN.{length}
 use Rattle.whole.specs.Sum.{sum}
 use Rattle.rules.specs.declared.Shape.{Shape}
 use Rattle.rules.specs.Field.{Kind, quadratic, weightSum, fieldLength, limit}
+use Rattle.rules.proofs.QuadraticLaws.{weights-36}
 use Rattle.ledger.specs.Lists.{Call, Buffers, fresh}
 use Rattle.ledger.specs.Demand3.{Demand3}
 use Rattle.ledger.proofs.Agreement.{list-agrees, fresh-agrees}
@@ -28,10 +29,6 @@ demand-3-of κ hw g b field wind room calls =
       replies-stay = λ s h. struck κ g b s calls st st (like s) .replies-left;
       part-stays = λ s h. sym (struck κ g b s calls st st (like s) .ends .parts);
     }
-
-weights-36 : weightSum quadratic ≡ 36
-unfolding weightSum quadratic sum
-weights-36 = refl
 
 -- DEMAND 3 of document 01's quadratic elements
 pub demand-3 : (g : Shape) (b : Buffers) (field : List ℕ) (wind : List ℤ) → fieldLength quadratic g ≤ length field → (calls : List Call) → Demand3 quadratic g b field wind 36 100000000 calls

@@ -79,6 +79,7 @@ module _ (κ : Kind) (g : Shape) where
   line (windCall f) a held s e = held s e
   line (on t op) a held s e = cond (eqb t s) (entry κ g op a (held s) e) (held s e)
 
+  -- the numbers after a list of calls and their answers, from the numbers `held` before it
   unfoldable pub ledgerFrom : (ℕ → ℕ → ℤ) → List Call → List (Answer (List ℤ)) → ℕ → ℕ → ℤ
   unfolding line
   ledgerFrom held [] replies = held

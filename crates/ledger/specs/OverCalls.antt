@@ -50,6 +50,7 @@ module _ (g : Shape) where
   told (on s (withdrawal i j q)) d = unreported (outcome (d .answer))
   told (on s (step u)) d = reported (outcome (d .answer)) (take (faces g) (d .report))
 
+  -- the answers that a row of calls gave, as the ledger is fed with them
   unfoldable pub allTold : List Call → List Given → List (Answer (List ℤ))
   unfolding told
   allTold [] ds = []

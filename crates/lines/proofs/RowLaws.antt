@@ -25,13 +25,9 @@ module _ (g : Shape) (a : admitted g ≡ true) where
   pub elements-le : elements g ≤ 4096
   elements-le = mul-le-mul (bounds .nx-small) (bounds .ny-small)
 
-  pub face-lt : (way : Way) (i j : ℕ) → i < g .nx → j < g .ny → faceIndex g way i j < faces g
-  face-lt East i j hi hj = omega (arith, element-lt g (bounds .nx-above) (bounds .ny-above) i j hi hj)
-  face-lt North i j hi hj = omega (arith, element-lt g (bounds .nx-above) (bounds .ny-above) i j hi hj)
-
   -- the first element of a row
   pub row-lt : (j : ℕ) → j < g .ny → j * g .nx < elements g
-  row-lt j h = omega (arith, element-lt g (bounds .nx-above) (bounds .ny-above) 0 j (bounds .nx-above) h)
+  row-lt j h = omega (arith, element-lt g 0 j (bounds .nx-above) h)
 
 -- the faces of a row follow one another
 pub face-is : (g : Shape) (way : Way) (i j : ℕ) → faceIndex g way 0 j + i ≡ faceIndex g way i j

@@ -26,7 +26,7 @@ use Rattle.rules.specs.Program.{gridLine, faceLine, faceRow, faceLines, totalLi
 use Rattle.rules.proofs.StepLaws.{report-length}
 use Rattle.text.specs.Added.{Added}
 use Rattle.text.proofs.AddedLaws.{none-added, wider, then, added-room}
-use Rattle.lines.proofs.RowLaws.{face-lt}
+use Rattle.rules.proofs.GridLaws.{face-lt}
 use Rattle.output.specs.declared.Lines.{Lines}
 use Rattle.output.specs.declared.Lines.the-variants.{UpTo, Refused}
 use Rattle.output.specs.AddedLines.{tracerRoom, LinesAdded, AddedOrRefused}
@@ -35,7 +35,7 @@ use Rattle.transport.proofs.CheckLaws.{stepping, plain-refused, report-accepted
 -- ---- the lines of a report that stands at the front of a longer buffer
 module _ (g : Shape) (s t : ℕ) (a : admitted g ≡ true) (rep old : List ℤ) (size : length rep ≡ faces g) (room : faces g ≤ length old) where
   value : (way : Way) (i j : ℕ) → i < g .nx → j < g .ny → at (overwrite 0 rep old) (faceIndex g way i j) ≡ at rep (faceIndex g way i j)
-  value way i j hi hj = ap (at (overwrite 0 rep old)) (sym (zero-add (faceIndex g way i j))) ∙ overwrite-inside 0 rep old (omega (arith, size)) (pos 0) (faceIndex g way i j) (omega (arith, size, face-lt g a way i j hi hj))
+  value way i j hi hj = ap (at (overwrite 0 rep old)) (sym (zero-add (faceIndex g way i j))) ∙ overwrite-inside 0 rep old (omega (arith, size)) (pos 0) (faceIndex g way i j) (omega (arith, size, face-lt g way i j hi hj))
 
   row : (way : Way) (j : ℕ) → j < g .ny → faceRow g s way (overwrite 0 rep old) j ≡ faceRow g s way rep j
   unfolding faceRow

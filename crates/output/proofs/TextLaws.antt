@@ -1,6 +1,5 @@
 -- The text at the front of the buffer is what is printed.
-use mathlib.Core.Path.{_≡_, refl, sym, ap, _∙_}
-use mathlib.Core.Bool.{Bool, true, false}
+use mathlib.Core.Path.{_≡_, sym, ap, _∙_}
 use mathlib.Core.List.{List}
 use Prim.Native.Nat.{ℕ, _+_, _*_, _≤_, _<_}
 use native.Mathlib.Nat.{mul-assoc, mul-comm, mul-le-mul-right}
@@ -70,7 +69,3 @@ text-fits g t h =
     let e : g .ny * (g .nx * 96) ≡ elements g * 96 = sym (mul-assoc (g .ny) (g .nx) 96) ∙ ap (λ n. n * 96) (mul-comm (g .ny) (g .nx)) in
     let room : tracerRoom g ≤ 24624 = omega (arith, e) in
     omega (arith, mul-le-mul-right (tracerRoom g) (ranges g t .tracers-small))
-
-pub true-of : (b : Bool) → T b → b ≡ true
-true-of true t = refl
-true-of false t = absurd t

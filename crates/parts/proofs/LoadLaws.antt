@@ -4,12 +4,10 @@ use mathlib.Core.List.{List, [], _∷_, _++_}
 use Prim.Native.Nat.{ℕ, _+_, _*_, _-_, _≤_, _<_}
 use native.Mathlib.Nat.{zero-add}
 use native.Mathlib.Omega.{arith}
-use lib.Dec.{leb, leb→le}
 use lib.IntN.{ℤ, pos}
 use lib.ListN.{length, getD, take, drop}
-use Rattle.whole.specs.Sum.{all}
 use Rattle.whole.specs.Table.{table, at}
-use Rattle.whole.proofs.SumLaws.{sum-cong, all-at}
+use Rattle.whole.proofs.SumLaws.{sum-cong}
 use Rattle.whole.proofs.OverwriteLaws.{part-at}
 use Rattle.whole.proofs.TableLaws.{length-table, getD-table, table-cong}
 use Rattle.rules.specs.Field.{quadratic, elementLength, cell, weighted, mass}
@@ -17,6 +15,7 @@ use Rattle.rules.specs.Limiter.{closed, closedUnlevelled}
 use Rattle.rules.specs.Calls.{loadedValue, loadedElement, emitted, withdrawn}
 use Rattle.rules.proofs.LimiterLaws.{closed-cong, unlevelled-cong}
 use Rattle.rules.proofs.PartLaws.{value-le-mass, length-loaded-element}
+use Rattle.rules.proofs.QuadraticLaws.{weights-above}
 use Rattle.limiter.specs.Sizes.{Tentative}
 use Rattle.parts.specs.Weighing.{tenWeights, weighed}
 use Rattle.places.proofs.PlaceLaws.{ten}
@@ -46,15 +45,11 @@ module _ (p : List ℕ) where
   unfolding cell elementLength quadratic
   first-cell k = ap (λ n. getD p n 0) (zero-add k)
 
-  weight-above : (k : ℕ) → k < 9 → 0 < quadratic .weight k
-  unfolding quadratic all
-  weight-above k h = leb→le 1 (quadratic .weight k) (all-at 9 (λ k. leb 1 (quadratic .weight k)) tt k h)
-
   pub own-tentative : mass quadratic p 0 ≤ 100000000 → Tentative own
   unfolding quadratic
   own-tentative b = record {
     nine = omega (arith, length-table 9 (λ k. pos (getD p k 0)));
-    small = λ k h. rw (getD-table 9 (λ k. pos (getD p k 0)) k (pos 0) h) (record { within = omega (arith, first-cell k, value-le-mass quadratic p 0 k h (weight-above k h)) });
+    small = λ k h. rw (getD-table 9 (λ k. pos (getD p k 0)) k (pos 0) h) (record { within = omega (arith, first-cell k, value-le-mass quadratic p 0 k h (weights-above k h)) });
   }
 
   own-at : (k : ℕ) → k < 9 → at own k ≡ pos (cell quadratic p 0 k)

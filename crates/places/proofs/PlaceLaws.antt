@@ -6,7 +6,6 @@ use native.Mathlib.Nat.{mul-le-mul, mul-le-mul-right, mul-comm, suc-mul}
 use native.Mathlib.Numerals.{add-one}
 use native.Mathlib.Omega.{arith}
 use borrow.Author.Tests.{lt-leb, le-leb, ltb-true, ltb-false}
-use lib.Arith.{digits-lt}
 use lib.IntN.{ℤ, pos, negsuc}
 use lib.Signed.{ltZ, leZ}
 use Rattle.whole.proofs.OverwriteLaws.{part-room}
@@ -14,6 +13,7 @@ use Rattle.rules.specs.declared.Shape.{Shape}
 use Rattle.rules.specs.Field.{quadratic, elements, element, elementLength, tracerLength, fieldLength}
 use Rattle.rules.specs.Calls.{windInRange}
 use Rattle.rules.proofs.FieldLaws.{Ranges}
+use Rattle.rules.proofs.GridLaws.{element-lt}
 use Rattle.places.specs.Places.{Sized, Inside, elementStart}
 
 pub ten : elementLength quadratic ≡ 10
@@ -48,13 +48,10 @@ module _ (g : Shape) where
   pub start-le : (s : ℕ) → Sized g → s < g .tracers → s * tracerLength quadratic g ≤ 327680
   start-le s z h = omega (arith, tracer-room s h, field-is, field-le z)
 
-  pub element-lt : (i j : ℕ) → i < g .nx → j < g .ny → element g i j < elements g
-  element-lt i j hi hj = omega (arith, digits-lt {q = j} {m = g .ny} {r = i} {c = g .nx} hj hi, mul-comm (g .nx) (g .ny))
-
   -- and an element's numbers within its tracer's part
   pub element-room : (s i j : ℕ) → Inside g s i j → elementStart g s i j + 10 ≤ fieldLength quadratic g
   unfolding elementStart
-  element-room s i j h = omega (arith, tracer-room s (h .tracer), tracer-is, ap (λ n. element g i j * n) ten, element-lt i j (h .column) (h .row))
+  element-room s i j h = omega (arith, tracer-room s (h .tracer), tracer-is, ap (λ n. element g i j * n) ten, element-lt g i j (h .column) (h .row))
 
   pub element-ends : (s i j : ℕ) → Inside g s i j → (n : ℕ) → fieldLength quadratic g ≤ n → (at : ℕ) → at ≡ elementStart g s i j → (at + 10 ≤ n) × (at + 10 ≤ 327680)
   element-ends s i j h n room at e = (omega (arith, element-room s i j h, room, e), omega (arith, element-room s i j h, field-is, field-le (h .sized), e))

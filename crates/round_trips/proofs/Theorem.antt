@@ -3,11 +3,9 @@ use mathlib.Core.Path.{_≡_, sym, ap, _∙_}
 use mathlib.Core.List.{List}
 use Prim.Native.Nat.{ℕ, _≤_, _<_}
 use native.Mathlib.Omega.{arith}
-use lib.Dec.{T, ltb, ltb→lt}
+use lib.Dec.{T}
 use lib.IntN.{ℤ}
 use lib.ListN.{length, take}
-use Rattle.whole.specs.Sum.{all}
-use Rattle.whole.proofs.SumLaws.{all-at}
 use Rattle.rules.specs.declared.Shape.{Shape}
 use Rattle.rules.specs.declared.Reading.{Reading}
 use Rattle.rules.specs.declared.Reading.the-variants as Reading
@@ -17,6 +15,7 @@ use Rattle.rules.specs.Answers.{accepted, reading, fileAnswer}
 use Rattle.rules.specs.Field.{quadratic, admitted, faces, fieldLength}
 use Rattle.rules.specs.FieldFile.{byteAt, fileLength, readReply, readField, readWind, writeReply, writeFile}
 use Rattle.rules.proofs.FieldLaws.{ranges}
+use Rattle.rules.proofs.QuadraticLaws.{weights-above}
 use Rattle.places.proofs.PlaceLaws.{sized}
 use Rattle.round_trips.specs.RoundTrips.{WrittenIsRead, ReadIsWritten, Wrote, Read, FoundAgain, SameBytes}
 use Rattle.file_layout.proofs.LayoutLaws.{length-le}
@@ -24,14 +23,11 @@ use Rattle.round_trips.proofs.WrittenThenRead.{Storable, written-is-rea
 use Rattle.round_trips.proofs.ReadThenWritten.{read-is-written-of}
 
 -- quadratic elements can be stored
-weights-above : (k : ℕ) → k < quadratic .nodes → 0 < quadratic .weight k
-unfolding quadratic all
-weights-above k h = ltb→lt 0 (quadratic .weight k) (all-at 9 (λ k. ltb 0 (quadratic .weight k)) tt k h)
-
 length-small : (g : Shape) → T (admitted g) → fileLength quadratic g < 4294967296
 length-small g t = omega (arith, length-le g (sized (ranges g t)))
 
 storable : Storable quadratic
+unfolding quadratic
 storable = record { weights = weights-above; offsets = length-small }
 
 -- A FIELD WRITTEN TO A FILE IS THE FIELD READ FROM IT

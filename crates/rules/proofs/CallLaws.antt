@@ -4,9 +4,7 @@ use mathlib.Core.Bool.{Bool}
 use mathlib.Core.List.{List, []}
 use mathlib.Core.Logic.{_≢_}
 use Prim.Native.Nat.{ℕ, _+_, _-_, _≤_, _<_}
-use native.Mathlib.Nat.{mul-comm}
 use native.Mathlib.Omega.{arith}
-use lib.Arith.{digits-lt}
 use lib.Dec.{T, ltb, eqb, eqb→eq, leb→le, ltb→lt}
 use lib.IntN.{ℤ, pos, negℤ, _+ℤ_, _-ℤ_, +ℤ-idr}
 use lib.ListN.{length, getD}
@@ -23,7 +21,7 @@ use Rattle.rules.specs.Calls.{Operation, load, emission, withdrawal, ste
 use Rattle.rules.specs.Ledger.{only, entry}
 use Rattle.rules.proofs.AnswerLaws.{Passed}
 use Rattle.rules.proofs.LimiterLaws.{closed-length, closed-remainder, withdrawal-remainder, truncated-pos}
-use Rattle.rules.proofs.GridLaws.{only-yes, only-no, only-neg}
+use Rattle.rules.proofs.GridLaws.{only-yes, only-no, only-neg, element-lt}
 use Rattle.rules.proofs.PartLaws.{Good, held, length-withElement, mass-there, mass-elsewhere, remainder-there, remainder-elsewhere, length-loaded, mass-loaded, remainder-loaded, total-pos, total-by}
 use Rattle.rules.proofs.LedgerLaws.{sum-plus}
 use Rattle.rules.proofs.StepLaws.{held-closed, held-unlevelled, length-closed, remainder-closed, length-after, good-after, entries-after}
@@ -32,7 +30,7 @@ use Rattle.rules.proofs.StepLaws.{held-closed, held-unlevelled, length-
 pub on-grid-lt : (g : Shape) (i j : ℕ) → T (onGrid g i j) → element g i j < elements g
 on-grid-lt g i j t =
     let b = both-yes (ltb i (g .nx)) (ltb j (g .ny)) t in
-    omega (arith, digits-lt {q = j} {m = g .ny} {r = i} {c = g .nx} (ltb→lt j (g .ny) (b .1)) (ltb→lt i (g .nx) (b .0)), mul-comm (g .nx) (g .ny))
+    element-lt g i j (ltb→lt i (g .nx) (b .0)) (ltb→lt j (g .ny) (b .1))
 
 -- ---- the numbers of an element after an emission and after a withdrawal
 module _ (κ : Kind) (e q : ℕ) (p : List ℕ) where

@@ -9,7 +9,7 @@ use lib.Dec.{T, leb, ltb, leb→le, le→leb, ltb→lt}
 use lib.IntN.{ℤ}
 use lib.ListN.{length}
 use Rattle.whole.specs.Sum.{all}
-use Rattle.whole.proofs.Cases.{both-yes}
+use Rattle.whole.proofs.Cases.{true-of, both-yes}
 use Rattle.whole.proofs.OverwriteLaws.{part-room, length-replaced, part-same, part-other}
 use Rattle.rules.specs.declared.Shape.{Shape}
 use Rattle.rules.specs.Answers.{Answer, accepted, refused, Check, check, answer, after}
@@ -125,10 +125,6 @@ module _ (κ : Kind) (g : Shape) (s : ℕ) (op : Operation Lent) (field : List �
   pub call-other : (t : ℕ) → s ≢ t → part κ g t (call κ g s op field .field) ≡ part κ g t field
   unfolding part withPart
   call-other t ne = call-ind (λ a f. part κ g t f ≡ part κ g t field) (λ n. refl) (λ h. part-other (tracerLength κ g) s (d .part) field (h .size) (h .end) 0 t ne)
-
-true-of : (b : Bool) → T b → b ≡ true
-true-of true t = refl
-true-of false t = absurd t
 
 -- two fields that are long enough and have the same part of the tracer give the same answer, and the same part after it
 module _ (κ : Kind) (g : Shape) (s : ℕ) (op : Operation Lent) (f f′ : List ℕ) (room : fieldLength κ g ≤ length f) (room′ : fieldLength κ g ≤ length f′) (same : part κ g s f ≡ part κ g s f′) where

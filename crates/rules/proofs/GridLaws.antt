@@ -14,8 +14,10 @@ use Rattle.whole.proofs.Cases.{cond-ind, cond-yes, cond-no, eqb-of, ne→neqb}
 use Rattle.whole.proofs.WholeLaws.{add-parts, eq-parts}
 use Rattle.whole.proofs.SumLaws.{sumℤ-add, sumℤ-cong, sumℤ-single, sumℤ-split}
 use Rattle.rules.specs.declared.Shape.{Shape}
+use Rattle.rules.specs.declared.Way.{Way}
+use Rattle.rules.specs.declared.Way.the-variants.{East, North}
 use Rattle.rules.specs.Field.{elements, faces, element, northFace}
-use Rattle.rules.specs.Grid.{east, west, north, south, looksEast, behind, ahead}
+use Rattle.rules.specs.Grid.{east, west, north, south, looksEast, behind, ahead, faceIndex}
 use Rattle.rules.specs.Correction.{target}
 use Rattle.rules.specs.Ledger.{only}
 
@@ -65,28 +67,33 @@ arrange m a b c d = eq-parts (omega (
   add-parts m a,
 ))
 
+-- an element of the grid, and its faces, have an index below their number
+pub element-lt : (g : Shape) (i j : ℕ) → i < g .nx → j < g .ny → element g i j < elements g
+element-lt g i j hi hj = omega (arith, digits-lt {q = j} {m = g .ny} {r = i} {c = g .nx} hj hi, mul-comm (g .nx) (g .ny))
+
+pub face-lt : (g : Shape) (way : Way) (i j : ℕ) → i < g .nx → j < g .ny → faceIndex g way i j < faces g
+face-lt g East i j hi hj = omega (arith, element-lt g i j hi hj)
+face-lt g North i j hi hj = omega (arith, element-lt g i j hi hj)
+
 module _ (g : Shape) (hx : 0 < g .nx) (hy : 0 < g .ny) where
   row-lt : (e : ℕ) → e < elements g → e / g .nx < g .ny
   row-lt e h = div-lt-iff-lt-mul hx .1 (omega (arith, mul-comm (g .nx) (g .ny)))
 
-  pub element-lt : (i j : ℕ) → i < g .nx → j < g .ny → element g i j < elements g
-  element-lt i j hi hj = omega (arith, digits-lt {q = j} {m = g .ny} {r = i} {c = g .nx} hj hi, mul-comm (g .nx) (g .ny))
-
   pub east-lt : (e : ℕ) → e < elements g → east g e < elements g
   unfolding east
-  east-lt e h = element-lt ((e % g .nx + 1) % g .nx) (e / g .nx) (mod-lt _ hx) (row-lt e h)
+  east-lt e h = element-lt g ((e % g .nx + 1) % g .nx) (e / g .nx) (mod-lt _ hx) (row-lt e h)
 
   pub west-lt : (e : ℕ) → e < elements g → west g e < elements g
   unfolding west
-  west-lt e h = element-lt ((e % g .nx + (g .nx - 1)) % g .nx) (e / g .nx) (mod-lt _ hx) (row-lt e h)
+  west-lt e h = element-lt g ((e % g .nx + (g .nx - 1)) % g .nx) (e / g .nx) (mod-lt _ hx) (row-lt e h)
 
   pub north-lt : (e : ℕ) → e < elements g → north g e < elements g
   unfolding north
-  north-lt e h = element-lt (e % g .nx) ((e / g .nx + 1) % g .ny) (mod-lt _ hx) (mod-lt _ hy)
+  north-lt e h = element-lt g (e % g .nx) ((e / g .nx + 1) % g .ny) (mod-lt _ hx) (mod-lt _ hy)
 
   pub south-lt : (e : ℕ) → e < elements g → south g e < elements g
   unfolding south
-  south-lt e h = element-lt (e % g .nx) ((e / g .nx + (g .ny - 1)) % g .ny) (mod-lt _ hx) (mod-lt _ hy)
+  south-lt e h = element-lt g (e % g .nx) ((e / g .nx + (g .ny - 1)) % g .ny) (mod-lt _ hx) (mod-lt _ hy)
 
   pub east-west : (e : ℕ) → e < elements g → east g (west g e) ≡ e
   unfolding east west

@@ -10,4 +10,5 @@ pub mod StepLaws
 pub mod CallLaws
 pub mod FieldLaws
 pub mod StageBounds
+pub mod QuadraticLaws
 pub mod MarkedCases

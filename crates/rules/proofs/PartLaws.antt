@@ -28,7 +28,7 @@ unfoldable pub held : Kind → List ℕ → ℕ
 held κ x = weighted κ (λ k. getD x k 0) + getD x (κ .nodes) 0
 
 -- the value and the remainder's place are among an element's numbers
-node-lt : (κ : Kind) (k : ℕ) → k ≤ κ .nodes → k < elementLength κ
+pub node-lt : (κ : Kind) (k : ℕ) → k ≤ κ .nodes → k < elementLength κ
 unfolding elementLength
 node-lt κ k h = omega arith
 

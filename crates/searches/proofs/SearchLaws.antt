@@ -17,13 +17,10 @@ use Rattle.rules.specs.Field.{quadratic, elements, elementLength, weightSum, ce
 use Rattle.parts.specs.Weighing.{tenWeights}
 use Rattle.searches.specs.Search.{searched}
 use Rattle.rules.specs.Answers.{accepted, refused, answer}
+use Rattle.rules.proofs.QuadraticLaws.{weights-36}
 use Rattle.parts.proofs.ElementLaws.{numbersSum, mass-is}
 
 -- ---- a tracer's part
-weights-36 : weightSum quadratic ≡ 36
-unfolding weightSum quadratic sum
-weights-36 = refl
-
 remainder-is : (p : List ℕ) (e : ℕ) → remainder quadratic p e ≡ getD p (e * 10 + 9) 0
 unfolding remainder cell elementLength quadratic
 remainder-is p e = refl

@@ -6,7 +6,7 @@ use Prim.Native.Nat.{ℕ, _+_, _*_, _-_, _/_, _%_, _≤_, _<_}
 use native.Mathlib.Decide.{decLt}
 use native.Mathlib.Nat.{div-add-mod', zero-add}
 use native.Mathlib.Omega.{arith}
-use lib.Dec.{leb, leb→le, le→leb}
+use lib.Dec.{le→leb}
 use lib.IntN.{ℤ, pos, _+ℤ_, _-ℤ_}
 use lib.ListN.{length, getD, List·getD-eq-default}
 use lib.Seq.{ext-getD}
@@ -20,7 +20,6 @@ use lib.Arith.{digits-div, digits-mod}
 use Rattle.whole.proofs.Cases.{cond-ind}
 use Rattle.whole.proofs.BoundLaws.{within-le, within-pos}
 use Rattle.whole.proofs.OverwriteLaws.{part-at, part-size, length-overwrite, overwrite-inside, overwrite-above}
-use Rattle.whole.proofs.SumLaws.{all-at}
 use Rattle.whole.proofs.TableLaws.{getD-table, blocks-cong}
 use Rattle.whole.proofs.WholeLaws.{positive-pos, abs-parts}
 use Rattle.rules.specs.declared.Shape.{Shape}
@@ -35,6 +34,7 @@ use Rattle.rules.proofs.GridLaws.{behind-east, ahead-east, behind-north, ahead-
 use Rattle.rules.proofs.CorrectionLaws.{outflow-local}
 use Rattle.rules.proofs.PartLaws.{value-le-mass, mass-le-total}
 use Rattle.rules.proofs.LimiterLaws.{closed-cong}
+use Rattle.rules.proofs.QuadraticLaws.{weights-above}
 use Rattle.rules.proofs.StageBounds.{quadratic-bounded, ψ-within, flux-within}
 use Rattle.rules.proofs.StepLaws.{report-is, report-length, report-le, goal-above}
 use Rattle.grid.specs.Place.{SmallGrid}
@@ -48,10 +48,6 @@ use Rattle.transport.specs.Finish.{Finished, massOf, tentativeOf, newEle
 
 not-below : (n : ℕ) → pos 0 ≤ℤ pos n
 not-below n = record { le = le→leb 0 n (omega arith) }
-
-weight-above : (k : ℕ) → k < 9 → 0 < quadratic .weight k
-unfolding quadratic all
-weight-above k h = leb→le 1 (quadratic .weight k) (all-at 9 (λ k. leb 1 (quadratic .weight k)) tt k h)
 
 module _ (g : Shape) (wind : List ℤ) (p : List ℕ) (small-grid : SmallGrid g) (wind-range : WindsInRange g wind) (room : length p ≡ elements g * 10) (bound : total quadratic g p ≤ 100000000) where
   abbrev c : ℕ → ℤ
@@ -84,7 +80,7 @@ module _ (g : Shape) (wind : List ℤ) (p : List ℕ) (small-grid : SmallGrid g)
       go : Dec (i < elements g * 10) → Dec (i % 10 < 9) → getD p i 0 ≤ 100000000
       go (yes l) (yes k) =
           let e : i / 10 < elements g = omega arith in
-          omega (arith, ap (λ n. getD p n 0) place, value-le-mass quadratic p (i / 10) (i % 10) k (weight-above (i % 10) k), mass-small (i / 10) e)
+          omega (arith, ap (λ n. getD p n 0) place, value-le-mass quadratic p (i / 10) (i % 10) k (weights-above (i % 10) k), mass-small (i / 10) e)
       go (yes l) (no k) =
           let e : i / 10 < elements g = omega arith in
           let n : i % 10 ≡ 9 = omega arith in

@@ -5,6 +5,11 @@ use mathlib.Core.Logic.{_≢_}
 use Prim.Native.Nat.{ℕ}
 use lib.Dec.{T, T-not, eqb, eqb→eq, eqb-refl}
 
+-- a test that holds
+pub true-of : (b : Bool) → T b → b ≡ true
+true-of true t = refl
+true-of false t = absurd t
+
 pub cond-ind {ℓ κ} : {A : Type ℓ} (c : Bool) (x y : A) (P : A → Type κ) → (T c → P x) → (T (not c) → P y) → P (cond c x y)
 cond-ind true x y P f g = f tt
 cond-ind false x y P f g = g tt

@@ -15,7 +15,7 @@ use Rattle.whole.proofs.OverwriteLaws.{part-size}
 use Rattle.rules.specs.Calls.{emission, done}
 use Rattle.rules.proofs.CallLaws.{length-emitted}
 use Rattle.rules.proofs.PartLaws.{mass-le-total}
-use Rattle.places.proofs.PlaceLaws.{element-lt}
+use Rattle.rules.proofs.GridLaws.{element-lt}
 use Rattle.field.proofs.CheckLaws.{found, inside, call-refused, call-accepted, emission-refused, emission-off-grid, emission-above, emission-accepted}
 use Rattle.field.proofs.InPlaceLaws.{mass-lent, emitted-lent, back-in-place}
 use Rattle.field.proofs.emission.Statement.{statement}

@@ -9,7 +9,8 @@ use mir.Syntax.{w16}
 use mir.Val.{toZ, ofZ}
 use Rattle.rules.specs.Field.{admitted, faces, onGrid}
 use Rattle.rules.specs.Calls.{windInRange}
-use Rattle.field.proofs.WindFreshLoad.{sized-of, inside-of, face-lt, wind-2, wind-4, wind-5, wind-8, wind-done}
+use Rattle.rules.proofs.GridLaws.{face-lt}
+use Rattle.field.proofs.WindFreshLoad.{sized-of, inside-of, wind-2, wind-4, wind-5, wind-8, wind-done}
 use Rattle.field.proofs.wind.Statement.{statement}
 use Rattle.field.proofs.wind.Tie as tie
 
@@ -61,7 +62,8 @@ face-at-requires c κs = inside-of _ _ _ (shape (c .before .before .before .befo
 inside : (c : tie.After-face-at) → c .face-at .result < length (c .before .before .before .before .before .before .before .before .before .before .args .winds .now)
 inside c =
     let a = c .before .before .before .before .before .before .before .before .before .before .args in
-    omega (arith, c .face-at .ensures, room (c .before .before .before .before .before), face-lt (a .shape) (a .face .way) (a .face .i) (a .face .j) (inside-of (a .shape) (a .face .i) (a .face .j) (shape (c .before .before .before .before .before .before .before)) (grid (c .before))))
+    let h = inside-of (a .shape) (a .face .i) (a .face .j) (shape (c .before .before .before .before .before .before .before)) (grid (c .before)) in
+    omega (arith, c .face-at .ensures, room (c .before .before .before .before .before), face-lt (a .shape) (a .face .way) (a .face .i) (a .face .j) (h .column) (h .row))
 
 mul-new : tie.Need-mul-new
 mul-new c = omega (arith, inside c)

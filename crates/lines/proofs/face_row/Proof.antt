@@ -9,7 +9,8 @@ use Rattle.rules.specs.Field.{faces}
 use Rattle.rules.specs.Program.{faceLine}
 use Rattle.text.specs.Added.{Added}
 use Rattle.text.proofs.AddedLaws.{added-length, same-bytes, blocks-none, block-room, block-more}
-use Rattle.lines.proofs.RowLaws.{elements-le, face-lt, face-is, lineFrom, row-is}
+use Rattle.rules.proofs.GridLaws.{face-lt}
+use Rattle.lines.proofs.RowLaws.{elements-le, face-is, lineFrom, row-is}
 use Rattle.lines.proofs.face_row.Statement.{statement}
 use Rattle.lines.proofs.face_row.Tie as tie
 
@@ -34,7 +35,7 @@ inside : (c : tie.In-loop Inv-loop μ-loop) → c .before .before .first-face .r
 inside c =
     let b = c .before .before .before .before in
     let i = c .before .loop .i in
-    omega (arith, c .before .before .first-face .ensures, face-is (b .args .shape) (b .args .way) i (b .args .j), face-lt (b .args .shape) (b .pre .0) (b .args .way) i (b .args .j) (c .loop-test .taken) (b .pre .1 .0))
+    omega (arith, c .before .before .first-face .ensures, face-is (b .args .shape) (b .args .way) i (b .args .j), face-lt (b .args .shape) (b .args .way) i (b .args .j) (c .loop-test .taken) (b .pre .1 .0))
 
 add-face-line : tie.Need-add-face-line Inv-loop μ-loop
 add-face-line c =

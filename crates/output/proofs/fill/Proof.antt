@@ -6,7 +6,8 @@ use Rattle.rules.specs.Field.{quadratic, admitted, faces}
 use Rattle.rules.specs.Program.{refusedLine}
 use Rattle.file_layout.proofs.ReplyLaws.{read-shown}
 use Rattle.output.proofs.Laws.{added-of, refusal-of}
-use Rattle.output.proofs.TextLaws.{front-added, end-le, long-printed, refused-printed, text-printed, text-is, refusal-text, text-fits, true-of}
+use Rattle.output.proofs.TextLaws.{front-added, end-le, long-printed, refused-printed, text-printed, text-is, refusal-text, text-fits}
+use Rattle.whole.proofs.Cases.{true-of}
 use borrow.Author.Needs.{needs}
 use Rattle.output.proofs.fill.Statement.{statement}
 use Rattle.output.proofs.fill.Tie as tie

@@ -2,7 +2,8 @@ use mathlib.Core.Path.{sym, ap, _∙_}
 use native.Mathlib.Omega.{arith}
 use Prim.Native.Nat.{_+_, _*_}
 use Rattle.rules.specs.Field.{element}
-use Rattle.places.proofs.PlaceLaws.{element-room, element-lt, start-is, field-le, elements-le, field-is}
+use Rattle.rules.proofs.GridLaws.{element-lt}
+use Rattle.places.proofs.PlaceLaws.{element-room, start-is, field-le, elements-le, field-is}
 use Rattle.places.proofs.element_start.Statement.{statement}
 use Rattle.places.proofs.element_start.Tie as tie
 

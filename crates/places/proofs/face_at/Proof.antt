@@ -3,7 +3,8 @@ use native.Mathlib.Omega.{arith}
 use borrow.Author.Needs.{needs}
 use Prim.Native.Nat.{_+_}
 use Rattle.rules.specs.Field.{element}
-use Rattle.places.proofs.PlaceLaws.{element-lt, elements-le}
+use Rattle.rules.proofs.GridLaws.{element-lt}
+use Rattle.places.proofs.PlaceLaws.{elements-le}
 use Rattle.places.proofs.face_at.Statement.{statement}
 use Rattle.places.proofs.face_at.Tie as tie
 
