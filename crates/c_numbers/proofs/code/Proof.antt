@@ -5,15 +5,6 @@ use borrow.Author.Needs.{needs}
 use Rattle.c_numbers.proofs.code.Statement.{statement}
 use Rattle.c_numbers.proofs.code.Tie as tie
 
-enum-told : tie.Need-enum-told
-enum-told c = search needs
-
-enum-known-answer : tie.Need-enum-known-answer
-enum-known-answer c = search needs
-
-refusal-number-requires : tie.Need-refusal-number-requires
-refusal-number-requires c κs = search needs
-
 returns : tie.Need-returns
 unfolding code
 returns c = sym (ap (λ a. code (outcome a)) (c .enum-told .given .1))
@@ -24,4 +15,4 @@ returns-2 c = c .refusal-number .ensures ∙ sym (ap (λ a. code (outcome a)) (c
 
 pub code-spec : {M : Type 1} → statement M
 code-spec =
-    tie.close (tie.spec enum-told enum-known-answer refusal-number-requires returns returns-2)
+    tie.close (tie.spec (λ c. search needs) (λ c. search needs) (λ c κs. search needs) returns returns-2)

@@ -6,17 +6,8 @@ use borrow.Author.Needs.{needs}
 use Rattle.c_numbers.proofs.number_or.Statement.{statement}
 use Rattle.c_numbers.proofs.number_or.Tie as tie
 
-enum-known-answer : tie.Need-enum-known-answer
-enum-known-answer c = search needs
-
 cast-result : tie.Need-cast-result
 cast-result c = let h = c .before .before .before .pre .small (c .before .answer .given .0 .0) (ap reading (c .before .answer .given .1)) in record { sfits = omega arith }
-
-enum-known-answer-2 : tie.Need-enum-known-answer-2
-enum-known-answer-2 c = search needs
-
-negated-requires : tie.Need-negated-requires
-negated-requires c κs = search needs
 
 returns : tie.Need-returns
 returns c = number-is _ _ (c .before .before .before .pre) (ap reading (c .before .answer .given .1))
@@ -27,4 +18,4 @@ returns-2 c = refusal-is _ (c .negated .result) (c .before .before .answer2 .giv
 pub number-or-spec : {M : Type 1} → statement M
 number-or-spec =
     tie.close
-    (tie.spec enum-known-answer cast-result enum-known-answer-2 negated-requires returns returns-2)
+    (tie.spec (λ c. search needs) cast-result (λ c. search needs) (λ c κs. search needs) returns returns-2)

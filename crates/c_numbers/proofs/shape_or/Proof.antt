@@ -7,9 +7,6 @@ use borrow.Author.Needs.{needs}
 use Rattle.c_numbers.proofs.shape_or.Statement.{statement}
 use Rattle.c_numbers.proofs.shape_or.Tie as tie
 
-enum-known-answer : tie.Need-enum-known-answer
-enum-known-answer c = search needs
-
 -- the bounds of the shape that is answered
 bounds : (c : tie.After-answer) → Sized (c .answer .given .0 .0)
 bounds c = c .before .before .pre .small (c .answer .given .0 .0) (ap fileAnswer (c .answer .given .1))
@@ -29,12 +26,6 @@ add-result-2 c = let h = bounds (c .before .before .before .before) in record { 
 cast-result : tie.Need-cast-result
 cast-result c = let b = c .before .before .before .before in record { sfits = omega (arith, shape-le (b .answer .given .0 .0) (bounds b)) }
 
-enum-known-answer-2 : tie.Need-enum-known-answer-2
-enum-known-answer-2 c = search needs
-
-negated-requires : tie.Need-negated-requires
-negated-requires c κs = search needs
-
 returns : tie.Need-returns
 returns c = let b = c .before .before .before .before in shape-is _ (b .answer .given .0 .0) (b .before .before .pre) (ap fileAnswer (b .answer .given .1))
 
@@ -45,13 +36,13 @@ pub shape-or-spec : {M : Type 1} → statement M
 shape-or-spec =
     tie.close
     (tie.spec
-    enum-known-answer
+    (λ c. search needs)
     mul-result
     add-result
     mul-result-2
     add-result-2
     cast-result
-    enum-known-answer-2
-    negated-requires
+    (λ c. search needs)
+    (λ c κs. search needs)
     returns
     returns-2)

@@ -66,12 +66,6 @@ add-end c = record { fits = omega (arith, ends c) }
 mul-mass : tie.Need-mul-mass Inv-loop μ-loop
 mul-mass c = record { fits = omega (arith, ends c) }
 
-sub-mass : tie.Need-sub-mass Inv-loop μ-loop
-sub-mass c = search needs
-
-part-mass-start : tie.Need-part-mass-start Inv-loop μ-loop
-part-mass-start c = search needs
-
 part-mass-end : tie.Need-part-mass-end Inv-loop μ-loop
 part-mass-end c = omega (arith, ends c)
 
@@ -112,15 +106,6 @@ outflow-requires c κs =
       ),
     )
 
-add-out : tie.Need-add-out Inv-loop μ-loop
-add-out c = search needs
-
-mul-out : tie.Need-mul-out Inv-loop μ-loop
-mul-out c = search needs
-
-slice-set-from-out : tie.Need-slice-set-from-out Inv-loop μ-loop
-slice-set-from-out c = search needs
-
 -- the mass and the outflow of a turn
 mass-made : (c : tie.After-mass Inv-loop μ-loop) → c .mass .result ≡ mass quadratic (c .before .before .before .before .before .before .args .part .now) (c .before .before .before .loop .e)
 mass-made c =
@@ -136,20 +121,8 @@ mass-small c =
 cast-work : tie.Need-cast-work Inv-loop μ-loop
 cast-work c = record { sfits = omega (arith, mass-small (c .before .before .before)) }
 
-add-t15 : tie.Need-add-t15 Inv-loop μ-loop
-add-t15 c = search needs
-
-mul-t17 : tie.Need-mul-t17 Inv-loop μ-loop
-mul-t17 c = search needs
-
 slice-set-from-work : tie.Need-slice-set-from-work Inv-loop μ-loop
 slice-set-from-work c = let i = c .before .before .before .before .before in rw length-set (omega (arith, placed i .inside, i .before .loop .inv .2 .long, i .before .before .before .before .pre .1 .1 .1 .0))
-
-add-e : tie.Need-add-e Inv-loop μ-loop
-add-e c = search needs
-
-loop-less : tie.Need-loop-less Inv-loop μ-loop
-loop-less c = search needs
 
 loop-again : tie.Need-loop-again Inv-loop μ-loop
 loop-again c =
@@ -172,4 +145,4 @@ returns : tie.Need-returns Inv-loop μ-loop
 returns c = written-moved _ _ _ refl refl (omega arith) (c .before .loop .inv .2)
 
 pub amounts-spec : {M : Type 1} → statement M
-amounts-spec = tie.close (tie.spec Inv-loop μ-loop mul-n mul-fluxes mul-fluxes-2 add-masses add-masses-2 add-outflows loop-holds add-end mul-mass sub-mass part-mass-start part-mass-end mass-requires mul-outflow sub-outflow part-outflow-start part-outflow-end outflow-requires add-out mul-out slice-set-from-out cast-work add-t15 mul-t17 slice-set-from-work add-e loop-less loop-again same-length returns)
+amounts-spec = tie.close (tie.spec Inv-loop μ-loop mul-n mul-fluxes mul-fluxes-2 add-masses add-masses-2 add-outflows loop-holds add-end mul-mass (λ c. search needs) (λ c. search needs) part-mass-end mass-requires mul-outflow sub-outflow part-outflow-start part-outflow-end outflow-requires (λ c. search needs) (λ c. search needs) (λ c. search needs) cast-work (λ c. search needs) (λ c. search needs) slice-set-from-work (λ c. search needs) (λ c. search needs) loop-again same-length returns)

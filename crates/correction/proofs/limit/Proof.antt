@@ -93,12 +93,6 @@ mul-t10 c = let i = c .before .before .before .before in record { fits = omega (
 slice-set-from-report-2 : tie.Need-slice-set-from-report-2 Inv-loop μ-loop
 slice-set-from-report-2 c = let i = c .before .before .before .before in rw length-set (omega (arith, placed i .inside, i .before .loop .inv .1 .long, i .before .before .before .pre .1 .1))
 
-add-e : tie.Need-add-e Inv-loop μ-loop
-add-e c = search needs
-
-loop-less : tie.Need-loop-less Inv-loop μ-loop
-loop-less c = search needs
-
 loop-again : tie.Need-loop-again Inv-loop μ-loop
 loop-again c =
     let i = c .before .before .before .before in
@@ -116,4 +110,4 @@ returns : tie.Need-returns Inv-loop μ-loop
 returns c = written-moved _ _ _ refl refl (omega arith) (c .before .loop .inv .1)
 
 pub limit-spec : {M : Type 1} → statement M
-limit-spec = tie.close (tie.spec Inv-loop μ-loop mul-n loop-holds east-requires limited-face-requires add-limited-face north-requires limited-face-requires-2 cast-report add-report mul-report slice-set-from-report cast-report-2 mul-t10 slice-set-from-report-2 add-e loop-less loop-again same-length returns)
+limit-spec = tie.close (tie.spec Inv-loop μ-loop mul-n loop-holds east-requires limited-face-requires add-limited-face north-requires limited-face-requires-2 cast-report add-report mul-report slice-set-from-report cast-report-2 mul-t10 slice-set-from-report-2 (λ c. search needs) (λ c. search needs) loop-again same-length returns)

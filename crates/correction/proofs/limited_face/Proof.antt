@@ -49,9 +49,6 @@ mul-flux c = record { fits = omega (arith, small c, c .before .pre .1 .1 .0) }
 shared-slice-copy-out-flux : tie.Need-shared-slice-copy-out-flux
 shared-slice-copy-out-flux c = omega (arith, c .before .pre .1 .1 .0, c .before .pre .1 .0 .long)
 
-donor-requires : tie.Need-donor-requires
-donor-requires c κs = search needs
-
 -- the flux, and its donor
 flux-is : (c : tie.After-flux) → toZ w64 (ofZ w64 (at (c .before .before .args .work .now) (fluxesAt (c .before .before .args .shape) + c .before .before .args .f))) ≡ at (c .before .before .args .work .now) (fluxesAt (c .before .before .args .shape) + c .before .before .args .f)
 flux-is c = let b = c .before .before in back-is w64 _ (b .pre .1 .0 .fluxes (b .args .f) (b .pre .1 .1 .0)) tt
@@ -117,4 +114,4 @@ returns c =
     are-eq (record { same = read-back w64 (c .cut .ensures) tt; bound = c .cut .ensures .bound }) e
 
 pub limited-face-spec : {M : Type 1} → statement M
-limited-face-spec = tie.close (tie.spec mul-n mul-fluxes mul-fluxes-2 add-masses add-masses-2 add-outflows add-flux mul-flux shared-slice-copy-out-flux donor-requires add-cut mul-cut shared-slice-copy-out-cut add-cut-2 mul-cut-2 shared-slice-copy-out-cut-2 cut-requires returns)
+limited-face-spec = tie.close (tie.spec mul-n mul-fluxes mul-fluxes-2 add-masses add-masses-2 add-outflows add-flux mul-flux shared-slice-copy-out-flux (λ c κs. search needs) add-cut mul-cut shared-slice-copy-out-cut add-cut-2 mul-cut-2 shared-slice-copy-out-cut-2 cut-requires returns)

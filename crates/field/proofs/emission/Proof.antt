@@ -21,24 +21,9 @@ use Rattle.field.proofs.InPlaceLaws.{mass-lent, emitted-lent, back-in-p
 use Rattle.field.proofs.emission.Statement.{statement}
 use Rattle.field.proofs.emission.Tie as tie
 
-total-requires : tie.Need-total-requires
-total-requires c κs = search needs
-
-enum-known-found : tie.Need-enum-known-found
-enum-known-found c = search needs
-
-enum-known-found-2 : tie.Need-enum-known-found-2
-enum-known-found-2 c = search needs
-
 -- what the reading of the total says
 read : (c : tie.After-known-told2) → totalReading quadratic (c .before .before .before .before .before .before .args .shape) (c .before .before .before .before .before .before .args .tracer) (c .before .before .before .before .before .before .args .field .now) ≡ accepted (c .before .found2 .given .0 .0)
 read c = sym (c .before .before .before .total .ensures) ∙ ap reading (c .before .found2 .given .1)
-
-on-grid-requires : tie.Need-on-grid-requires
-on-grid-requires c κs = search needs
-
-same-length : tie.Need-same-length
-same-length c = search needs
 
 returns : tie.Need-returns
 returns c = let a = c .before .before .before .before .before .before .before .before .args in call-refused (a .shape) (a .tracer) (emission (a .i) (a .j) (a .q)) (a .field .now) 8 (emission-off-grid (a .shape) (a .tracer) (a .i) (a .j) (a .q) (a .field .now) _ (read (c .before .before)) (sym (c .before .on-grid .ensures) ∙ not-true _ (c .if1 .taken)))
@@ -51,9 +36,6 @@ within c = let a = c .before .before .before .before .before .before .before .be
 
 sub-if2 : tie.Need-sub-if2
 sub-if2 c = let a = c .before .before .before .before .before .before .before .before .args in found (a .shape) (a .tracer) (a .field .now) _ (read (c .before .before)) .small
-
-same-length-2 : tie.Need-same-length-2
-same-length-2 c = search needs
 
 returns-2 : tie.Need-returns-2
 returns-2 c =
@@ -76,12 +58,6 @@ add-end c = record { fits = omega (arith, ends c) }
 mul-emit : tie.Need-mul-emit
 mul-emit c = omega (arith, ends c)
 
-sub-emit : tie.Need-sub-emit
-sub-emit c = search needs
-
-part-emit-start : tie.Need-part-emit-start
-part-emit-start c = search needs
-
 part-emit-end : tie.Need-part-emit-end
 part-emit-end c = omega (arith, ends c)
 
@@ -101,14 +77,8 @@ emit-requires c κs =
     let w = within (b .before) in
     (part-size 10 r (r + 10 - r) (a .field .now) (add-sub-cancel-left r 10) (ends (c .before) .0), omega (arith, lent-mass c, mass-le-total quadratic (a .shape) (part quadratic (a .shape) (a .tracer) (a .field .now)) (element (a .shape) (a .i) (a .j)) (element-lt (a .shape) (a .i) (a .j) (w .column) (w .row)), h .sum, h .small, b .if2 .left))
 
-same-length-3 : tie.Need-same-length-3
-same-length-3 c = search needs
-
 returns-3 : tie.Need-returns-3
 returns-3 c = let a = c .before .before .before .before .before .before .args in call-refused (a .shape) (a .tracer) (emission (a .i) (a .j) (a .q)) (a .field .now) _ (emission-refused (a .shape) (a .tracer) (a .i) (a .j) (a .q) (a .field .now) _ (sym (c .before .before .before .total .ensures) ∙ ap reading (c .before .found .given .1)))
-
-same-length-4 : tie.Need-same-length-4
-same-length-4 c = search needs
 
 returns-4 : tie.Need-returns-4
 unfolding done
@@ -126,4 +96,4 @@ returns-4 c =
     (e .0, (rw (b .element-start .ensures) (back-in-place (a .shape) (a .tracer) (a .i) (a .j) (a .field .now) w (h .room) k ten-is _ _ x (length-emitted quadratic (element (a .shape) (a .i) (a .j)) (a .q) (part quadratic (a .shape) (a .tracer) (a .field .now))))) ∙ e .1)
 
 pub emission-spec : {M : Type 1} → statement M
-emission-spec = tie.close (tie.spec total-requires enum-known-found enum-known-found-2 on-grid-requires same-length returns sub-if2 same-length-2 returns-2 element-start-requires add-end mul-emit sub-emit part-emit-start part-emit-end emit-requires same-length-3 returns-3 same-length-4 returns-4)
+emission-spec = tie.close (tie.spec (λ c κs. search needs) (λ c. search needs) (λ c. search needs) (λ c κs. search needs) (λ c. search needs) returns sub-if2 (λ c. search needs) returns-2 element-start-requires add-end mul-emit (λ c. search needs) (λ c. search needs) part-emit-end emit-requires (λ c. search needs) returns-3 (λ c. search needs) returns-4)

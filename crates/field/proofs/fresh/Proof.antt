@@ -46,12 +46,6 @@ clear-requires c κs = omega arith
 clear-wind-requires : tie.Need-clear-wind-requires
 clear-wind-requires c κs = omega arith
 
-same-length : tie.Need-same-length
-same-length c = search needs
-
-same-length-2 : tie.Need-same-length-2
-same-length-2 c = search needs
-
 returns-4 : tie.Need-returns-4
 returns-4 c =
     let f = c .before .before .before .before .before .clear .ensures ∙ ap (λ n. overwrite 0 (replicate n 0) (c .before .before .before .before .before .before .before .before .before .before .before .before .before .before .args .field .now)) (c .before .before .before .before .before .before .before .before .before .before .field-length .ensures) in
@@ -60,4 +54,4 @@ returns-4 c =
     (d .0, (f ∙ d .1 .0, w ∙ d .1 .1))
 
 pub fresh-spec : {M : Type 1} → statement M
-fresh-spec = tie.close (tie.spec admitted-requires returns field-length-requires faces-requires returns-2 returns-3 clear-requires clear-wind-requires same-length same-length-2 returns-4)
+fresh-spec = tie.close (tie.spec admitted-requires returns field-length-requires faces-requires returns-2 returns-3 clear-requires clear-wind-requires (λ c. search needs) (λ c. search needs) returns-4)

@@ -82,12 +82,6 @@ add-end c = let g = c .before .before .before .before .before .before .before .b
 mul-lay : tie.Need-mul-lay
 mul-lay c = let g = c .before .before .before .before .before .before .before .before .before .before .before .before .before .before .args .shape in omega (arith, end c, field-is g, field-le g (sized-of g (shape (c .before .before .before .before .before .before .before .before .before .before))))
 
-sub-lay : tie.Need-sub-lay
-sub-lay c = search needs
-
-part-lay-start : tie.Need-part-lay-start
-part-lay-start c = search needs
-
 part-lay-end : tie.Need-part-lay-end
 part-lay-end c = omega (arith, end c, room (c .before .before .before .before .before .before .before .before))
 
@@ -98,9 +92,6 @@ lay-requires c κs =
     let n = c .before .tracer-length .result in
     let size : n ≡ c .before .before .before .before .before .before .before .before .elements .result * 10 = omega (arith, c .before .tracer-length .ensures, tracer-is (a .shape), c .before .before .before .before .before .before .before .before .elements .ensures) in
     (part-size n at (at + n - at) (a .field .now) (add-sub-cancel-left at n) (omega (arith, end (c .before), room (c .before .before .before .before .before .before .before .before .before))) ∙ size, (small (c .before .before .before .before .before .before .before .before), omega (arith, c .before .before .before .before .before .before .before .if3 .left)))
-
-same-length : tie.Need-same-length
-same-length c = search needs
 
 returns-6 : tie.Need-returns-6
 returns-6 c =
@@ -114,4 +105,4 @@ returns-6 c =
     )
 
 pub load-spec : {M : Type 1} → statement M
-load-spec = tie.close (tie.spec admitted-requires returns field-length-requires returns-2 elements-requires mul-if3 returns-3 returns-4 loaded-total-requires returns-5 tracer-start-requires tracer-length-requires add-end mul-lay sub-lay part-lay-start part-lay-end lay-requires same-length returns-6)
+load-spec = tie.close (tie.spec admitted-requires returns field-length-requires returns-2 elements-requires mul-if3 returns-3 returns-4 loaded-total-requires returns-5 tracer-start-requires tracer-length-requires add-end mul-lay (λ c. search needs) (λ c. search needs) part-lay-end lay-requires (λ c. search needs) returns-6)

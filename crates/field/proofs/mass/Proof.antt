@@ -17,21 +17,9 @@ use Rattle.field.proofs.InPlaceLaws.{mass-lent}
 use Rattle.field.proofs.mass.Statement.{statement}
 use Rattle.field.proofs.mass.Tie as tie
 
-total-requires : tie.Need-total-requires
-total-requires c κs = search needs
-
-enum-known-found : tie.Need-enum-known-found
-enum-known-found c = search needs
-
-enum-told : tie.Need-enum-told
-enum-told c = search needs
-
 -- what the reading of the total says
 read : (c : tie.After-enum-told) → totalReading quadratic (c .before .before .before .before .args .shape) (c .before .before .before .before .args .tracer) (c .before .before .before .before .args .field .now) ≡ accepted (c .enum-told .given .0 .0)
 read c = sym (c .before .before .total .ensures) ∙ ap reading (c .enum-told .given .1)
-
-on-grid-requires : tie.Need-on-grid-requires
-on-grid-requires c κs = search needs
 
 returns : tie.Need-returns
 returns c = let a = c .before .before .before .before .before .before .args in sym (mass-off-grid (a .shape) (a .tracer) (a .i) (a .j) (a .field .now) _ (read (c .before .before)) (sym (c .before .on-grid .ensures) ∙ not-true _ (c .if1 .taken)))
@@ -57,12 +45,6 @@ add-end c = record { fits = omega (arith, ends c) }
 mul-mass : tie.Need-mul-mass
 mul-mass c = omega (arith, ends c)
 
-sub-mass : tie.Need-sub-mass
-sub-mass c = search needs
-
-part-mass-start : tie.Need-part-mass-start
-part-mass-start c = search needs
-
 part-mass-end : tie.Need-part-mass-end
 part-mass-end c = omega (arith, ends c)
 
@@ -82,4 +64,4 @@ returns-3 c =
     ∙ sym (mass-found (a .shape) (a .tracer) (a .i) (a .j) (a .field .now) _ (read (b .before .before .before)) (grid (b .before)))
 
 pub mass-spec : {M : Type 1} → statement M
-mass-spec = tie.close (tie.spec total-requires enum-known-found enum-told on-grid-requires returns element-start-requires add-end mul-mass sub-mass part-mass-start part-mass-end mass-requires returns-2 returns-3)
+mass-spec = tie.close (tie.spec (λ c κs. search needs) (λ c. search needs) (λ c. search needs) (λ c κs. search needs) returns element-start-requires add-end mul-mass (λ c. search needs) (λ c. search needs) part-mass-end mass-requires returns-2 returns-3)

@@ -16,9 +16,6 @@ use Rattle.field.proofs.CheckLaws.{total-bad-shape, total-short, total-
 use Rattle.field.proofs.total.Statement.{statement}
 use Rattle.field.proofs.total.Tie as tie
 
-admitted-requires : tie.Need-admitted-requires
-admitted-requires c κs = search needs
-
 returns : tie.Need-returns
 returns c = let a = c .before .before .before .args in sym (total-bad-shape (a .shape) (a .tracer) (a .field .now) (sym (c .before .admitted .ensures) ∙ not-true _ (c .if1 .taken)))
 
@@ -65,12 +62,6 @@ add-end c = record { fits = omega (arith, ends c) }
 mul-tracer-total : tie.Need-mul-tracer-total
 mul-tracer-total c = omega (arith, ends c)
 
-sub-tracer-total : tie.Need-sub-tracer-total
-sub-tracer-total c = search needs
-
-part-tracer-total-start : tie.Need-part-tracer-total-start
-part-tracer-total-start c = search needs
-
 part-tracer-total-end : tie.Need-part-tracer-total-end
 part-tracer-total-end c = omega (arith, ends c)
 
@@ -84,4 +75,4 @@ returns-4 c =
     ∙ sym (total-searched (a .shape) (a .tracer) (a .field .now) (shape-is (c .before .before .before .before .before .before .before .before)) (room (c .before .before .before .before .before .before)) (c .before .before .before .before .if3 .left))
 
 pub total-spec : {M : Type 1} → statement M
-total-spec = tie.close (tie.spec admitted-requires returns field-length-requires returns-2 returns-3 tracer-start-requires tracer-length-requires add-end mul-tracer-total sub-tracer-total part-tracer-total-start part-tracer-total-end tracer-total-requires returns-4)
+total-spec = tie.close (tie.spec (λ c κs. search needs) returns field-length-requires returns-2 returns-3 tracer-start-requires tracer-length-requires add-end mul-tracer-total (λ c. search needs) (λ c. search needs) part-tracer-total-end tracer-total-requires returns-4)

@@ -71,11 +71,8 @@ mul-new c = omega (arith, inside c)
 slice-set-from-new : tie.Need-slice-set-from-new
 slice-set-from-new c = inside c
 
-same-length : tie.Need-same-length
-same-length c = search needs
-
 returns-5 : tie.Need-returns-5
 returns-5 c = let a = c .before .before .before .before .before .before .before .before .before .before .args in rw (c .face-at .ensures, whole (c .before .before .before .before .before .before .before .before .before)) (wind-done (a .shape) (a .face) (a .winds .now) (shape (c .before .before .before .before .before .before .before)) (room (c .before .before .before .before .before)) (range (c .before .before .before)) (grid (c .before)))
 
 pub wind-spec : {M : Type 1} → statement M
-wind-spec = tie.close (tie.spec admitted-requires returns faces-requires returns-2 wind-in-range-requires returns-3 on-grid-requires returns-4 face-at-requires mul-new slice-set-from-new same-length returns-5)
+wind-spec = tie.close (tie.spec admitted-requires returns faces-requires returns-2 wind-in-range-requires returns-3 on-grid-requires returns-4 face-at-requires mul-new slice-set-from-new (λ c. search needs) returns-5)

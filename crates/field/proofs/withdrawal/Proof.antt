@@ -16,24 +16,12 @@ use Rattle.field.proofs.InPlaceLaws.{mass-lent, withdrawn-lent, back-in
 use Rattle.field.proofs.withdrawal.Statement.{statement}
 use Rattle.field.proofs.withdrawal.Tie as tie
 
-mass-requires : tie.Need-mass-requires
-mass-requires c κs = search needs
-
-enum-known-found : tie.Need-enum-known-found
-enum-known-found c = search needs
-
-enum-known-found-2 : tie.Need-enum-known-found-2
-enum-known-found-2 c = search needs
-
 -- what the reading of the mass says, and with it of the element
 read : (c : tie.After-known-told2) → massReading quadratic (c .before .before .before .before .before .before .args .shape) (c .before .before .before .before .before .before .args .tracer) (c .before .before .before .before .before .before .args .i) (c .before .before .before .before .before .before .args .j) (c .before .before .before .before .before .before .args .field .now) ≡ accepted (c .before .found2 .given .0 .0)
 read c = sym (c .before .before .before .mass .ensures) ∙ ap reading (c .before .found2 .given .1)
 
 known : (c : tie.After-known-told2) → Held (c .before .before .before .before .before .before .args .shape) (c .before .before .before .before .before .before .args .tracer) (c .before .before .before .before .before .before .args .i) (c .before .before .before .before .before .before .args .j) (c .before .before .before .before .before .before .args .field .now) (c .before .found2 .given .0 .0)
 known c = let a = c .before .before .before .before .before .before .args in held (a .shape) (a .tracer) (a .i) (a .j) (a .field .now) _ (read c)
-
-same-length : tie.Need-same-length
-same-length c = search needs
 
 returns : tie.Need-returns
 returns c = let a = c .before .before .before .before .before .before .before .args in call-refused (a .shape) (a .tracer) (withdrawal (a .i) (a .j) (a .q)) (a .field .now) 10 (withdrawal-over (a .shape) (a .tracer) (a .i) (a .j) (a .field .now) (a .q) _ (read (c .before)) (c .if1 .taken))
@@ -54,12 +42,6 @@ add-end c = record { fits = omega (arith, ends c) }
 mul-withdraw : tie.Need-mul-withdraw
 mul-withdraw c = omega (arith, ends c)
 
-sub-withdraw : tie.Need-sub-withdraw
-sub-withdraw c = search needs
-
-part-withdraw-start : tie.Need-part-withdraw-start
-part-withdraw-start c = search needs
-
 part-withdraw-end : tie.Need-part-withdraw-end
 part-withdraw-end c = omega (arith, ends c)
 
@@ -73,14 +55,8 @@ withdraw-requires c κs =
     rw (c .before .element-start .ensures) (mass-lent (a .shape) (a .tracer) (a .i) (a .j) (a .field .now) (k .within) (k .room) (st + 10 - st) (add-sub-cancel-left st 10)) in
     (part-size 10 r (r + 10 - r) (a .field .now) (add-sub-cancel-left r 10) (ends (c .before) .0), (omega (arith, m, k .is, k .small), omega (arith, m, k .is, c .before .before .if1 .left)))
 
-same-length-2 : tie.Need-same-length-2
-same-length-2 c = search needs
-
 returns-2 : tie.Need-returns-2
 returns-2 c = let a = c .before .before .before .before .before .before .args in call-refused (a .shape) (a .tracer) (withdrawal (a .i) (a .j) (a .q)) (a .field .now) _ (withdrawal-refused (a .shape) (a .tracer) (a .i) (a .j) (a .field .now) (a .q) _ (sym (c .before .before .before .mass .ensures) ∙ ap reading (c .before .found .given .1)))
-
-same-length-3 : tie.Need-same-length-3
-same-length-3 c = search needs
 
 returns-3 : tie.Need-returns-3
 unfolding done
@@ -97,4 +73,4 @@ returns-3 c =
     (e .0, (rw (b .element-start .ensures) (back-in-place (a .shape) (a .tracer) (a .i) (a .j) (a .field .now) (k .within) (k .room) n ten-is _ _ x (length-withdrawn quadratic (element (a .shape) (a .i) (a .j)) (a .q) (part quadratic (a .shape) (a .tracer) (a .field .now))))) ∙ e .1)
 
 pub withdrawal-spec : {M : Type 1} → statement M
-withdrawal-spec = tie.close (tie.spec mass-requires enum-known-found enum-known-found-2 same-length returns element-start-requires add-end mul-withdraw sub-withdraw part-withdraw-start part-withdraw-end withdraw-requires same-length-2 returns-2 same-length-3 returns-3)
+withdrawal-spec = tie.close (tie.spec (λ c κs. search needs) (λ c. search needs) (λ c. search needs) (λ c. search needs) returns element-start-requires add-end mul-withdraw (λ c. search needs) (λ c. search needs) part-withdraw-end withdraw-requires (λ c. search needs) returns-2 (λ c. search needs) returns-3)

@@ -8,15 +8,6 @@ use Rattle.file_layout.proofs.LayoutLaws.{length-is, length-le}
 use Rattle.file_layout.proofs.file_length.Statement.{statement}
 use Rattle.file_layout.proofs.file_length.Tie as tie
 
-table-start-requires : tie.Need-table-start-requires
-table-start-requires c κs = search needs
-
-add-result : tie.Need-add-result
-add-result c = search needs
-
-mul-result : tie.Need-mul-result
-mul-result c = search needs
-
 -- the file's length, by the table's start
 sum-is : (c : tie.After-struct-known) → c .before .table-start .result + 4 * (c .before .before .args .shape .tracers + 1) + 12 ≡ fileLength quadratic (c .before .before .args .shape)
 sum-is c = omega (arith, c .before .table-start .ensures, length-is quadratic (c .before .before .args .shape))
@@ -33,4 +24,4 @@ returns c = sum-is c
 pub file-length-spec : {M : Type 1} → statement M
 file-length-spec =
     tie.close
-    (tie.spec table-start-requires add-result mul-result add-result-2 add-result-3 returns)
+    (tie.spec (λ c κs. search needs) (λ c. search needs) (λ c. search needs) add-result-2 add-result-3 returns)

@@ -11,17 +11,8 @@ use Rattle.file_layout.proofs.section_start.Tie as tie
 returns : tie.Need-returns
 returns c = rw (c .if1 .taken) (sym (wind-start quadratic (c .before .args .shape)))
 
-faces-requires : tie.Need-faces-requires
-faces-requires c κs = search needs
-
 mul-result : tie.Need-mul-result
 mul-result c = let b = c .before .before in record { fits = omega (arith, c .faces .ensures, elements-le (b .args .shape) (b .pre .0)) }
-
-sub-result : tie.Need-sub-result
-sub-result c = search needs
-
-tracer-length-requires : tie.Need-tracer-length-requires
-tracer-length-requires c κs = search needs
 
 mul-result-2 : tie.Need-mul-result-2
 mul-result-2 c = let b = c .before .before .before in record { fits = omega (arith, c .tracer-length .ensures, tracer-le (b .args .shape) (b .pre .0)) }
@@ -46,10 +37,10 @@ section-start-spec =
     tie.close
     (tie.spec
     returns
-    faces-requires
+    (λ c κs. search needs)
     mul-result
-    sub-result
-    tracer-length-requires
+    (λ c. search needs)
+    (λ c κs. search needs)
     mul-result-2
     mul-result-3
     add-result

@@ -4,12 +4,6 @@ use Rattle.file_reading.specs.Reading.{tailAnswer}
 use Rattle.file_reading.proofs.answer_of.Statement.{statement}
 use Rattle.file_reading.proofs.answer_of.Tie as tie
 
-enum-known-tail : tie.Need-enum-known-tail
-enum-known-tail c = search needs
-
-enum-known-tail-2 : tie.Need-enum-known-tail-2
-enum-known-tail-2 c = search needs
-
 returns : tie.Need-returns
 returns c = sym (ap tailAnswer (c .before .tail .given .1))
 
@@ -17,4 +11,4 @@ returns-2 : tie.Need-returns-2
 returns-2 c = sym (ap tailAnswer (c .before .tail2 .given .1))
 
 pub answer-of-spec : {M : Type 1} → statement M
-answer-of-spec = tie.close (tie.spec enum-known-tail enum-known-tail-2 returns returns-2)
+answer-of-spec = tie.close (tie.spec (λ c. search needs) (λ c. search needs) returns returns-2)

@@ -7,18 +7,6 @@ use Rattle.file_reading.proofs.CheckLaws.{Given, given, Fitting, fittin
 use Rattle.file_reading.proofs.read.Statement.{statement}
 use Rattle.file_reading.proofs.read.Tie as tie
 
-read-tail-requires : tie.Need-read-tail-requires
-read-tail-requires c κs = search needs
-
-enum-known-tail : tie.Need-enum-known-tail
-enum-known-tail c = search needs
-
-enum-told : tie.Need-enum-told
-enum-told c = search needs
-
-answer-of-requires : tie.Need-answer-of-requires
-answer-of-requires c κs = search needs
-
 returns : tie.Need-returns
 returns c =
     let b = c .before .before .before in
@@ -36,12 +24,6 @@ facts c = given (c .before .before .before .before .before .before .args .file .
 
 check-requires : tie.Need-check-requires
 check-requires c κs = facts c .sizes
-
-enum-known-checked : tie.Need-enum-known-checked
-enum-known-checked c = search needs
-
-enum-told-2 : tie.Need-enum-told-2
-enum-told-2 c = search needs
 
 -- every check is passed
 passed : (c : tie.After-enum-told2) → shapeReply (c .before .before .before .before .tail .given .0 .0) (c .before .before .before .before .before .before .before .before .before .args .file .now) (length (c .before .before .before .before .before .before .before .before .before .args .field .now)) (length (c .before .before .before .before .before .before .before .before .before .args .wind .now)) ≡ accepted tt
@@ -62,12 +44,6 @@ returns-2 c =
     let a = k .before .before .before .before .before .before .args in
     read-refused (a .file .now) (a .field .now) (a .wind .now) (k .before .tail .given .0 .0) _ (shaped k) (sym (c .before .before .before .check .ensures) ∙ ap outcome (c .before .checked .given .1))
 
-same-length : tie.Need-same-length
-same-length c = search needs
-
-same-length-2 : tie.Need-same-length-2
-same-length-2 c = search needs
-
 returns-3 : tie.Need-returns-3
 returns-3 c =
     let p = c .before .before .before .before .before .before .before in
@@ -80,17 +56,17 @@ pub read-spec : {M : Type 1} → statement M
 read-spec =
     tie.close
     (tie.spec
-    read-tail-requires
-    enum-known-tail
-    enum-told
-    answer-of-requires
+    (λ c κs. search needs)
+    (λ c. search needs)
+    (λ c. search needs)
+    (λ c κs. search needs)
     returns
     check-requires
-    enum-known-checked
-    enum-told-2
+    (λ c. search needs)
+    (λ c. search needs)
     read-wind-requires
     read-tracers-requires
     returns-2
-    same-length
-    same-length-2
+    (λ c. search needs)
+    (λ c. search needs)
     returns-3)

@@ -19,24 +19,9 @@ Inv-loop file field₀ shape n tracers to₀ s₀ field to s = (s ≤ tracers) �
 abbrev μ-loop : tie.MeasureT-loop
 μ-loop file field₀ shape n tracers to₀ s₀ field to s = tracers - s
 
-tracer-length-requires : tie.Need-tracer-length-requires Inv-loop μ-loop
-tracer-length-requires c κs = search needs
-
 loop-holds : tie.Need-loop-holds Inv-loop μ-loop
 unfolding table
 loop-holds c = (omega arith, omega arith, refl, refl)
-
-add-section-start : tie.Need-add-section-start Inv-loop μ-loop
-add-section-start c = search needs
-
-section-start-requires : tie.Need-section-start-requires Inv-loop μ-loop
-section-start-requires c κs = search needs
-
-add-section-start-2 : tie.Need-add-section-start-2 Inv-loop μ-loop
-add-section-start-2 c = search needs
-
-section-start-requires-2 : tie.Need-section-start-requires-2 Inv-loop μ-loop
-section-start-requires-2 c κs = search needs
 
 -- the section of a turn
 span : (c : tie.After-section-start2 Inv-loop μ-loop) → (c .section-start2 .result ≡ c .before .section-start .result + 4 * tracerLength quadratic (c .before .before .before .before .before .before .before .args .shape)) × (c .section-start2 .result ≤ length (c .before .before .before .before .before .before .before .args .file .now))
@@ -71,12 +56,6 @@ part-read-numbers-end c = omega (arith, span c)
 mul-read-numbers : tie.Need-mul-read-numbers Inv-loop μ-loop
 mul-read-numbers c = omega (arith, room (c .before .before .before))
 
-sub-read-numbers-2 : tie.Need-sub-read-numbers-2 Inv-loop μ-loop
-sub-read-numbers-2 c = search needs
-
-part-read-numbers-start-2 : tie.Need-part-read-numbers-start-2 Inv-loop μ-loop
-part-read-numbers-start-2 c = search needs
-
 part-read-numbers-end-2 : tie.Need-part-read-numbers-end-2 Inv-loop μ-loop
 part-read-numbers-end-2 c = omega (arith, room (c .before .before .before))
 
@@ -87,12 +66,6 @@ read-numbers-requires c κs =
     let s = l .before .before .before .before in
     let n = l .before .tracer-length .result in
     (omega (arith, l .before .tracer-length .ensures, part-size (4 * tracerLength quadratic (s .args .shape)) (b .before .section-start .result) (b .section-start2 .result - b .before .section-start .result) (s .args .file .now) (omega (arith, span b)) (omega (arith, span b))), omega (arith, part-size n (l .loop .to) (l .loop .to + n - l .loop .to) (l .loop .field) (omega arith) (room (b .before .before) .0)))
-
-add-s : tie.Need-add-s Inv-loop μ-loop
-add-s c = search needs
-
-loop-less : tie.Need-loop-less Inv-loop μ-loop
-loop-less c = search needs
 
 loop-again : tie.Need-loop-again Inv-loop μ-loop
 loop-again c =
@@ -105,9 +78,6 @@ loop-again c =
     let next = tracer-read (a .shape) (a .file .now) (l .loop .s) (b .before .section-start .result) (b .section-start2 .result - b .before .section-start .result) (l .loop .to) n (l .loop .to + n - l .loop .to) (a .field .now) (l .loop .field) _
     (b .before .section-start .ensures) (omega (arith, span b)) (t .tracer-length .ensures) (l .loop .inv .1) (omega arith) (room (b .before .before) .0) (l .loop .inv .3) (r .read-numbers .ensures) in
     (omega arith, omega (arith, row-more n (l .loop .s), l .loop .inv .1), search needs, next)
-
-same-length : tie.Need-same-length Inv-loop μ-loop
-same-length c = search needs
 
 returns : tie.Need-returns Inv-loop μ-loop
 returns c =
@@ -125,23 +95,23 @@ read-tracers-spec =
     (tie.spec
     Inv-loop
     μ-loop
-    tracer-length-requires
+    (λ c κs. search needs)
     loop-holds
-    add-section-start
-    section-start-requires
-    add-section-start-2
-    section-start-requires-2
+    (λ c. search needs)
+    (λ c κs. search needs)
+    (λ c. search needs)
+    (λ c κs. search needs)
     add-to-end
     sub-read-numbers
     part-read-numbers-start
     part-read-numbers-end
     mul-read-numbers
-    sub-read-numbers-2
-    part-read-numbers-start-2
+    (λ c. search needs)
+    (λ c. search needs)
     part-read-numbers-end-2
     read-numbers-requires
-    add-s
-    loop-less
+    (λ c. search needs)
+    (λ c. search needs)
     loop-again
-    same-length
+    (λ c. search needs)
     returns)

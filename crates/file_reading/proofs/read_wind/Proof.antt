@@ -12,12 +12,6 @@ use Rattle.file_reading.proofs.ReadLaws.{winds-are}
 use Rattle.file_reading.proofs.read_wind.Statement.{statement}
 use Rattle.file_reading.proofs.read_wind.Tie as tie
 
-section-start-requires : tie.Need-section-start-requires
-section-start-requires c κs = search needs
-
-section-start-requires-2 : tie.Need-section-start-requires-2
-section-start-requires-2 c κs = search needs
-
 -- the wind section
 span : (c : tie.After-section-start2) → (c .before .section-start .result ≡ 0) × (c .section-start2 .result ≡ 2 * faces (c .before .before .before .args .shape)) × (c .section-start2 .result ≤ length (c .before .before .before .args .file .now))
 span c =
@@ -34,17 +28,11 @@ part-read-winds-start c = omega (arith, span c)
 part-read-winds-end : tie.Need-part-read-winds-end
 part-read-winds-end c = omega (arith, span c)
 
-faces-requires : tie.Need-faces-requires
-faces-requires c κs = search needs
-
 read-winds-requires : tie.Need-read-winds-requires
 read-winds-requires c κs =
     let b = c .before .before .before in
     let s = b .before .before .before in
     (omega (arith, c .faces .ensures, part-size (2 * faces (s .args .shape)) (b .before .section-start .result) (b .section-start2 .result - b .before .section-start .result) (s .args .file .now) (omega (arith, span b)) (omega (arith, span b))), omega (arith, c .faces .ensures, s .pre .1 .1))
-
-same-length : tie.Need-same-length
-same-length c = search needs
 
 returns : tie.Need-returns
 returns c =
@@ -60,12 +48,12 @@ pub read-wind-spec : {M : Type 1} → statement M
 read-wind-spec =
     tie.close
     (tie.spec
-    section-start-requires
-    section-start-requires-2
+    (λ c κs. search needs)
+    (λ c κs. search needs)
     sub-read-winds
     part-read-winds-start
     part-read-winds-end
-    faces-requires
+    (λ c κs. search needs)
     read-winds-requires
-    same-length
+    (λ c. search needs)
     returns)

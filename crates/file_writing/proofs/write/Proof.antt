@@ -8,15 +8,6 @@ use Rattle.file_layout.proofs.ReplyLaws.{Writable, write-shown, file-written, f
 use Rattle.file_writing.proofs.write.Statement.{statement}
 use Rattle.file_writing.proofs.write.Tie as tie
 
-check-requires : tie.Need-check-requires
-check-requires c κs = search needs
-
-enum-known-checked : tie.Need-enum-known-checked
-enum-known-checked c = search needs
-
-enum-known-checked-2 : tie.Need-enum-known-checked-2
-enum-known-checked-2 c = search needs
-
 -- what an accepted check has shown
 shown : (c : tie.After-known-told2) → Writable quadratic (c .before .before .before .before .before .before .before .args .shape) (c .before .before .before .before .before .before .before .args .field .now) (c .before .before .before .before .before .before .before .args .wind .now) (c .before .before .before .before .before .before .before .args .file .now)
 shown c =
@@ -28,17 +19,11 @@ write-parts-requires c κs =
     let w = shown (c .before) in
     (sized (ranges (c .before .before .before .before .before .before .before .before .args .shape) (w .ranges)), (w .out-room, (w .field-room, w .wind-room)))
 
-same-length : tie.Need-same-length
-same-length c = search needs
-
 returns : tie.Need-returns
 returns c =
     let a = c .before .before .before .before .before .before .before .args in
     let e = sym (c .before .before .before .check .ensures) ∙ ap reading (c .before .checked .given .1) in
     (sym e, file-kept quadratic (a .shape) (a .field .now) (a .wind .now) (a .file .now) _ e)
-
-same-length-2 : tie.Need-same-length-2
-same-length-2 c = search needs
 
 returns-2 : tie.Need-returns-2
 returns-2 c =
@@ -49,4 +34,4 @@ returns-2 c =
     )
 
 pub write-spec : {M : Type 1} → statement M
-write-spec = tie.close (tie.spec check-requires enum-known-checked enum-known-checked-2 write-parts-requires same-length returns same-length-2 returns-2)
+write-spec = tie.close (tie.spec (λ c κs. search needs) (λ c. search needs) (λ c. search needs) write-parts-requires (λ c. search needs) returns (λ c. search needs) returns-2)

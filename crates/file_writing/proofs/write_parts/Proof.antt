@@ -25,12 +25,6 @@ section-start-requires-2 c κs = (c .before .before .before .pre .0, omega arith
 table-start-requires : tie.Need-table-start-requires
 table-start-requires c κs = c .before .before .before .before .pre .0
 
-add-tail : tie.Need-add-tail
-add-tail c = search needs
-
-mul-tail : tie.Need-mul-tail
-mul-tail c = search needs
-
 add-tail-2 : tie.Need-add-tail-2
 add-tail-2 c = let b = c .before .before .before .before .before .before in record { fits = omega (arith, c .before .table-start .ensures, length-is quadratic (b .args .shape), length-le (b .args .shape) (b .pre .0)) }
 
@@ -112,12 +106,6 @@ write-tracers-requires c κs =
     let long = ap length (after-winds (c .before .before .before)) ∙ winds-long (c .before .before .before .before .before .before .before .before .before .before .before .before .before .args .shape) (c .before .before .before .before .before .before .before .before .before .before .before .before .before .args .field .now) (c .before .before .before .before .before .before .before .before .before .before .before .before .before .args .wind .now) (c .before .before .before .before .before .before .before .before .before .before .before .before .before .args .file .now) (c .before .before .before .before .before .before .before .before .before .before .before .before .before .pre .1 .0) in
     (b .pre .0, (omega (arith, long, b .pre .1 .0, table-start quadratic g, length-is quadratic g), b .pre .1 .1 .0))
 
-sub-write-table : tie.Need-sub-write-table
-sub-write-table c = search needs
-
-part-write-table-start : tie.Need-part-write-table-start
-part-write-table-start c = search needs
-
 part-write-table-end : tie.Need-part-write-table-end
 part-write-table-end c =
     let p = places (c .before .before .before .before .before .before .before .before .before) in
@@ -139,9 +127,6 @@ sub-write-tail c = let p = places (c .before .before .before .before .before .be
 part-write-tail-start : tie.Need-part-write-tail-start
 part-write-tail-start c = let p = places (c .before .before .before .before .before .before .before .before .before .before .before .before .before) in omega arith
 
-part-write-tail-end : tie.Need-part-write-tail-end
-part-write-tail-end c = search needs
-
 write-tail-requires : tie.Need-write-tail-requires
 write-tail-requires c κs =
     let p = places (c .before .before .before .before .before .before .before .before .before .before .before .before .before .before) in
@@ -150,9 +135,6 @@ write-tail-requires c κs =
     let e = c .before .before .before .before .before .before .before .before .before .before .before .before .before .before .file-length .result in
     let long = ap length (after-table (c .before .before .before)) ∙ table-long (c .before .before .before .before .before .before .before .before .before .before .before .before .before .before .before .before .before .before .before .before .before .args .shape) (c .before .before .before .before .before .before .before .before .before .before .before .before .before .before .before .before .before .before .before .before .before .args .field .now) (c .before .before .before .before .before .before .before .before .before .before .before .before .before .before .before .before .before .before .before .before .before .args .wind .now) (c .before .before .before .before .before .before .before .before .before .before .before .before .before .before .before .before .before .before .before .before .before .args .file .now) (c .before .before .before .before .before .before .before .before .before .before .before .before .before .before .before .before .before .before .before .before .before .pre .1 .0) in
     (b .pre .0, part-size 12 t (e - t) _ (omega arith) (omega (arith, long)))
-
-same-length : tie.Need-same-length
-same-length c = search needs
 
 returns : tie.Need-returns
 returns c =
@@ -164,4 +146,4 @@ returns c =
     (ap (λ n. n + 4 * (g .tracers + 1)) (t .ensures)) (e .ensures) (after-table (c .before .before .before .before .before .before)) (c .before .before .write-tail .ensures)
 
 pub write-parts-spec : {M : Type 1} → statement M
-write-parts-spec = tie.close (tie.spec section-start-requires section-start-requires-2 table-start-requires add-tail mul-tail add-tail-2 file-length-requires sub-write-winds part-write-winds-start part-write-winds-end faces-requires write-winds-requires write-tracers-requires sub-write-table part-write-table-start part-write-table-end write-table-requires sub-write-tail part-write-tail-start part-write-tail-end write-tail-requires same-length returns)
+write-parts-spec = tie.close (tie.spec section-start-requires section-start-requires-2 table-start-requires (λ c. search needs) (λ c. search needs) add-tail-2 file-length-requires sub-write-winds part-write-winds-start part-write-winds-end faces-requires write-winds-requires write-tracers-requires (λ c. search needs) (λ c. search needs) part-write-table-end write-table-requires sub-write-tail part-write-tail-start (λ c. search needs) write-tail-requires (λ c. search needs) returns)

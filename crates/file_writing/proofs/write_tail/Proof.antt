@@ -12,30 +12,6 @@ use Rattle.file_writing.proofs.WritingLaws.{tail-written}
 use Rattle.file_writing.proofs.write_tail.Statement.{statement}
 use Rattle.file_writing.proofs.write_tail.Tie as tie
 
-cast-out : tie.Need-cast-out
-cast-out c = search needs
-
-slice-write-out : tie.Need-slice-write-out
-slice-write-out c = search needs
-
-cast-out-2 : tie.Need-cast-out-2
-cast-out-2 c = search needs
-
-slice-write-out-2 : tie.Need-slice-write-out-2
-slice-write-out-2 c = search needs
-
-cast-out-3 : tie.Need-cast-out-3
-cast-out-3 c = search needs
-
-slice-write-out-3 : tie.Need-slice-write-out-3
-slice-write-out-3 c = search needs
-
-slice-write-out-4 : tie.Need-slice-write-out-4
-slice-write-out-4 c = search needs
-
-table-start-requires : tie.Need-table-start-requires
-table-start-requires c κs = search needs
-
 cast-put32 : tie.Need-cast-put32
 cast-put32 c = let b = c .before .before .before .before .before .before in record { fits = omega (arith, c .table-start .ensures, length-le (b .args .shape) (b .pre .0), length-is quadratic (b .args .shape)) }
 
@@ -50,26 +26,14 @@ long c =
     let l : length a ≡ 12 = simp length-set (b .pre .1) in
     ap length (c .before .before .put32 .ensures) ∙ length-overwrite 4 (bytes32 (c .before .before .before .table-start .result)) a (omega (arith, code32 .size (c .before .before .before .table-start .result))) ∙ l
 
-array-read-out : tie.Need-array-read-out
-array-read-out c = search needs
-
 slice-write-out-5 : tie.Need-slice-write-out-5
 slice-write-out-5 c = (omega (arith, long c))
-
-array-read-out-2 : tie.Need-array-read-out-2
-array-read-out-2 c = search needs
 
 slice-write-out-6 : tie.Need-slice-write-out-6
 slice-write-out-6 c = simp length-set (omega (arith, long c))
 
-array-read-out-3 : tie.Need-array-read-out-3
-array-read-out-3 c = search needs
-
 slice-write-out-7 : tie.Need-slice-write-out-7
 slice-write-out-7 c = simp length-set (omega (arith, long c))
-
-array-read-out-4 : tie.Need-array-read-out-4
-array-read-out-4 c = search needs
 
 slice-write-out-8 : tie.Need-slice-write-out-8
 slice-write-out-8 c = simp length-set (omega (arith, long c))
@@ -86,23 +50,23 @@ pub write-tail-spec : {M : Type 1} → statement M
 write-tail-spec =
     tie.close
     (tie.spec
-    cast-out
-    slice-write-out
-    cast-out-2
-    slice-write-out-2
-    cast-out-3
-    slice-write-out-3
-    slice-write-out-4
-    table-start-requires
+    (λ c. search needs)
+    (λ c. search needs)
+    (λ c. search needs)
+    (λ c. search needs)
+    (λ c. search needs)
+    (λ c. search needs)
+    (λ c. search needs)
+    (λ c κs. search needs)
     cast-put32
     put32-requires
-    array-read-out
+    (λ c. search needs)
     slice-write-out-5
-    array-read-out-2
+    (λ c. search needs)
     slice-write-out-6
-    array-read-out-3
+    (λ c. search needs)
     slice-write-out-7
-    array-read-out-4
+    (λ c. search needs)
     slice-write-out-8
     same-length
     returns)

@@ -60,23 +60,11 @@ add-end c = record { fits = omega (arith, section-ends c) }
 add-to : tie.Need-add-to Inv-loop μ-loop
 add-to c = record { fits = omega (arith, within c) }
 
-sub-write-numbers : tie.Need-sub-write-numbers Inv-loop μ-loop
-sub-write-numbers c = search needs
-
-part-write-numbers-start : tie.Need-part-write-numbers-start Inv-loop μ-loop
-part-write-numbers-start c = search needs
-
 part-write-numbers-end : tie.Need-part-write-numbers-end Inv-loop μ-loop
 part-write-numbers-end c = omega (arith, section-ends c, c .before .loop .inv .3)
 
 mul-write-numbers : tie.Need-mul-write-numbers Inv-loop μ-loop
 mul-write-numbers c = omega (arith, within (c .before))
-
-sub-write-numbers-2 : tie.Need-sub-write-numbers-2 Inv-loop μ-loop
-sub-write-numbers-2 c = search needs
-
-part-write-numbers-start-2 : tie.Need-part-write-numbers-start-2 Inv-loop μ-loop
-part-write-numbers-start-2 c = search needs
 
 part-write-numbers-end-2 : tie.Need-part-write-numbers-end-2 Inv-loop μ-loop
 part-write-numbers-end-2 c = omega (arith, within (c .before), c .before .before .before .before .before .before .before .pre .1 .1)
@@ -90,12 +78,6 @@ write-numbers-requires c κs =
       omega (arith, part-size (4 * w) (l .start) (l .start + 4 * w - l .start) (l .file) (add-sub-cancel-left (l .start) (4 * w)) (omega (arith, section-ends n, l .inv .3))),
       omega (arith, part-size w (l .from) (l .from + w - l .from) (b .args .field .now) (add-sub-cancel-left (l .from) w) (omega (arith, within n, b .pre .1 .1))),
     )
-
-add-k : tie.Need-add-k Inv-loop μ-loop
-add-k c = search needs
-
-loop-less : tie.Need-loop-less Inv-loop μ-loop
-loop-less c = search needs
 
 loop-again : tie.Need-loop-again Inv-loop μ-loop
 loop-again c =
@@ -124,4 +106,4 @@ returns c =
     rw (← n, ← (c .before .before .faces .ensures)) (l .inv .4)
 
 pub write-tracers-spec : {M : Type 1} → statement M
-write-tracers-spec = tie.close (tie.spec Inv-loop μ-loop tracer-length-requires faces-requires mul-start loop-holds mul-end add-end add-to sub-write-numbers part-write-numbers-start part-write-numbers-end mul-write-numbers sub-write-numbers-2 part-write-numbers-start-2 part-write-numbers-end-2 write-numbers-requires add-k loop-less loop-again same-length returns)
+write-tracers-spec = tie.close (tie.spec Inv-loop μ-loop tracer-length-requires faces-requires mul-start loop-holds mul-end add-end add-to (λ c. search needs) (λ c. search needs) part-write-numbers-end mul-write-numbers (λ c. search needs) (λ c. search needs) part-write-numbers-end-2 write-numbers-requires (λ c. search needs) (λ c. search needs) loop-again same-length returns)

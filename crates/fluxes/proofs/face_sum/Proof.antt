@@ -68,12 +68,6 @@ mul-third-2 c = record { fits = omega (arith, inside (c .before .before)) }
 shared-slice-copy-out-third : tie.Need-shared-slice-copy-out-third Inv-loop μ-loop
 shared-slice-copy-out-third c = omega (arith, inside (c .before .before))
 
-mul-sum : tie.Need-mul-sum Inv-loop μ-loop
-mul-sum c = search needs
-
-array-copy-out-sum : tie.Need-array-copy-out-sum Inv-loop μ-loop
-array-copy-out-sum c = search needs
-
 mul-sum-2 : tie.Need-mul-sum-2 Inv-loop μ-loop
 mul-sum-2 c = let h = small (c .before .before .before .before) in fits (search sizes depth 20) tt
 
@@ -91,12 +85,6 @@ add-sum-3 c = let h = small (c .before .before .before .before) in let s = c .be
 
 add-at : tie.Need-add-at Inv-loop μ-loop
 add-at c = record { fits = omega (arith, inside (c .before .before .before .before), c .before .before .before .before .before .before .pre .1) }
-
-add-r : tie.Need-add-r Inv-loop μ-loop
-add-r c = search needs
-
-loop-less : tie.Need-loop-less Inv-loop μ-loop
-loop-less c = search needs
 
 loop-again : tie.Need-loop-again Inv-loop μ-loop
 loop-again c =
@@ -117,4 +105,4 @@ returns : tie.Need-returns Inv-loop μ-loop
 returns c = let a = c .before .before .args in let e : c .before .loop .r ≡ 3 = omega arith in are-eq (rw e at (c .before .loop .inv .2)) (terms-are (a .work .now) (a .length) (a .start) (a .stride))
 
 pub face-sum-spec : {M : Type 1} → statement M
-face-sum-spec = tie.close (tie.spec Inv-loop μ-loop loop-holds mul-first shared-slice-copy-out-first add-second mul-second shared-slice-copy-out-second mul-third add-third mul-third-2 shared-slice-copy-out-third mul-sum array-copy-out-sum mul-sum-2 add-sum add-sum-2 mul-sum-3 add-sum-3 add-at add-r loop-less loop-again returns)
+face-sum-spec = tie.close (tie.spec Inv-loop μ-loop loop-holds mul-first shared-slice-copy-out-first add-second mul-second shared-slice-copy-out-second mul-third add-third mul-third-2 shared-slice-copy-out-third (λ c. search needs) (λ c. search needs) mul-sum-2 add-sum add-sum-2 mul-sum-3 add-sum-3 add-at (λ c. search needs) (λ c. search needs) loop-again returns)

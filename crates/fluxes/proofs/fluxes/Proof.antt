@@ -64,9 +64,6 @@ east-inside c = let p = placed c in east-lt (c .before .before .before .args .sh
 north-inside : (c : tie.In-loop Inv-loop μ-loop) → north (c .before .before .before .args .shape) (c .before .loop .e) < elements (c .before .before .before .args .shape)
 north-inside c = let p = placed c in north-lt (c .before .before .before .args .shape) (p .small-grid .nx-above) (p .small-grid .ny-above) (c .before .loop .e) (p .inside)
 
-mul-face-flux : tie.Need-mul-face-flux Inv-loop μ-loop
-mul-face-flux c = search needs
-
 shared-slice-copy-out-face-flux : tie.Need-shared-slice-copy-out-face-flux Inv-loop μ-loop
 shared-slice-copy-out-face-flux c = let i = c .before in omega (arith, placed i .inside, i .before .before .before .pre .1 .0 .long)
 
@@ -117,29 +114,8 @@ face-flux-requires-2 c κs =
       ),
     )
 
-add-north : tie.Need-add-north Inv-loop μ-loop
-add-north c = search needs
-
-mul-north : tie.Need-mul-north Inv-loop μ-loop
-mul-north c = search needs
-
-slice-set-from-north : tie.Need-slice-set-from-north Inv-loop μ-loop
-slice-set-from-north c = search needs
-
-add-east : tie.Need-add-east Inv-loop μ-loop
-add-east c = search needs
-
-mul-east : tie.Need-mul-east Inv-loop μ-loop
-mul-east c = search needs
-
 slice-set-from-east : tie.Need-slice-set-from-east Inv-loop μ-loop
 slice-set-from-east c = let i = c .before .before .before .before .before .before .before .before in rw length-set (omega (arith, placed i .inside, i .before .loop .inv .1 .long, i .before .before .before .pre .1 .1 .1))
-
-add-e : tie.Need-add-e Inv-loop μ-loop
-add-e c = search needs
-
-loop-less : tie.Need-loop-less Inv-loop μ-loop
-loop-less c = search needs
 
 -- the fluxes that a turn stores
 east-made : (c : tie.After-face-flux Inv-loop μ-loop) → toZ w64 (ofZ w64 (c .face-flux .result)) ≡ eastFlux (c .before .before .before .before .before .before .before .args .shape) (windAt (c .before .before .before .before .before .before .before .args .wind .now)) (c .before .before .before .before .before .before .before .args .work .now) (c .before .before .before .before .before .loop .e)
@@ -181,4 +157,4 @@ returns : tie.Need-returns Inv-loop μ-loop
 returns c = written-moved _ _ _ refl refl (omega arith) (c .before .loop .inv .1)
 
 pub fluxes-spec : {M : Type 1} → statement M
-fluxes-spec = tie.close (tie.spec Inv-loop μ-loop mul-n mul-length mul-easts add-norths loop-holds mul-face-flux shared-slice-copy-out-face-flux cast-face-flux east-requires face-flux-requires add-face-flux mul-face-flux-2 shared-slice-copy-out-face-flux-2 cast-face-flux-2 north-requires face-flux-requires-2 add-north mul-north slice-set-from-north add-east mul-east slice-set-from-east add-e loop-less loop-again same-length returns)
+fluxes-spec = tie.close (tie.spec Inv-loop μ-loop mul-n mul-length mul-easts add-norths loop-holds (λ c. search needs) shared-slice-copy-out-face-flux cast-face-flux east-requires face-flux-requires add-face-flux mul-face-flux-2 shared-slice-copy-out-face-flux-2 cast-face-flux-2 north-requires face-flux-requires-2 (λ c. search needs) (λ c. search needs) (λ c. search needs) (λ c. search needs) (λ c. search needs) slice-set-from-east (λ c. search needs) (λ c. search needs) loop-again same-length returns)

@@ -5,9 +5,6 @@ use Rattle.grid.proofs.Laws.{elements-le, row-column, east-last, east-n
 use Rattle.grid.proofs.east.Statement.{statement}
 use Rattle.grid.proofs.east.Tie as tie
 
-rem-if1 : tie.Need-rem-if1
-rem-if1 c = search needs
-
 add-if1 : tie.Need-add-if1
 add-if1 c = record { fits = omega (arith, mod-lt (c .args .e) (c .pre .small-grid .nx-above), c .pre .small-grid .nx-small) }
 
@@ -27,4 +24,4 @@ returns-2 : tie.Need-returns-2
 returns-2 c = let a = c .before .args in east-next (a .shape) (a .e) (c .before .pre) (c .if1 .left)
 
 pub east-spec : {M : Type 1} → statement M
-east-spec = tie.close (tie.spec rem-if1 add-if1 add-result sub-result add-result-2 returns returns-2)
+east-spec = tie.close (tie.spec (λ c. search needs) add-if1 add-result sub-result add-result-2 returns returns-2)

@@ -16,9 +16,6 @@ add-result c = let b = c .before .before in record { fits = omega (arith, b .pre
 add-result-2 : tie.Need-add-result-2
 add-result-2 c = let b = c .before .before in record { fits = omega (arith, b .pre .inside, elements-le (b .args .shape) (b .pre .small-grid), b .pre .small-grid .nx-small) }
 
-sub-result : tie.Need-sub-result
-sub-result c = search needs
-
 returns : tie.Need-returns
 returns c = let b = c .before .before in north-next (b .args .shape) (b .args .e) (b .pre) (c .if1 .taken)
 
@@ -26,4 +23,4 @@ returns-2 : tie.Need-returns-2
 returns-2 c = let b = c .before .before in north-last (b .args .shape) (b .args .e) (b .pre) (c .if1 .left)
 
 pub north-spec : {M : Type 1} → statement M
-north-spec = tie.close (tie.spec mul-n add-if1 add-result add-result-2 sub-result returns returns-2)
+north-spec = tie.close (tie.spec mul-n add-if1 add-result add-result-2 (λ c. search needs) returns returns-2)

@@ -4,9 +4,6 @@ use Rattle.grid.proofs.Laws.{elements-le, row-column, west-first, west-
 use Rattle.grid.proofs.west.Statement.{statement}
 use Rattle.grid.proofs.west.Tie as tie
 
-rem-if1 : tie.Need-rem-if1
-rem-if1 c = search needs
-
 add-result : tie.Need-add-result
 add-result c = record { fits = omega (arith, c .before .pre .inside, elements-le (c .before .args .shape) (c .before .pre .small-grid), c .before .pre .small-grid .nx-small) }
 
@@ -23,4 +20,4 @@ returns-2 : tie.Need-returns-2
 returns-2 c = let a = c .before .args in west-next (a .shape) (a .e) (c .before .pre) (c .if1 .left)
 
 pub west-spec : {M : Type 1} → statement M
-west-spec = tie.close (tie.spec rem-if1 add-result sub-result sub-result-2 returns returns-2)
+west-spec = tie.close (tie.spec (λ c. search needs) add-result sub-result sub-result-2 returns returns-2)

@@ -10,9 +10,6 @@ use Rattle.limiter.specs.Sizes.{shifted}
 use Rattle.limiter.proofs.close.Statement.{statement}
 use Rattle.limiter.proofs.close.Tie as tie
 
-mean-shift-requires : tie.Need-mean-shift-requires
-mean-shift-requires c κs = search needs
-
 -- what levelling adds is small
 shift-small : (c : tie.After-mean-shift) → Within 9213888890 (c .mean-shift .result)
 shift-small c = subst (Within 9213888890) (sym (c .mean-shift .ensures .same)) (c .mean-shift .ensures .bound)
@@ -22,9 +19,6 @@ close-shifted-requires c κs =
     let b = c .before .before .before in
     (b .pre .0, (b .pre .1 .0, (record { small = within-back w64 _ (shift-small (c .before)) }, b .pre .1 .1)))
 
-same-length : tie.Need-same-length
-same-length c = search needs
-
 returns : tie.Need-returns
 unfolding closed adjusted
 returns c =
@@ -33,4 +27,4 @@ returns c =
     c .before .before .close-shifted .ensures ∙ ap (λ z. closedUnlevelled quadratic (shifted (a .psi .now) z) (a .target)) (back-is w64 _ (shift-small b) tt ∙ b .mean-shift .ensures .same)
 
 pub close-spec : {M : Type 1} → statement M
-close-spec = tie.close (tie.spec mean-shift-requires close-shifted-requires same-length returns)
+close-spec = tie.close (tie.spec (λ c κs. search needs) close-shifted-requires (λ c. search needs) returns)

@@ -37,12 +37,6 @@ loop-holds : tie.Need-loop-holds Inv-loop μ-loop
 unfolding sum table
 loop-holds c = (refl, c .before .before .pre .0, refl, omega arith)
 
-mul-truncate : tie.Need-mul-truncate Inv-loop μ-loop
-mul-truncate c = search needs
-
-shared-slice-copy-out-truncate : tie.Need-shared-slice-copy-out-truncate Inv-loop μ-loop
-shared-slice-copy-out-truncate c = search needs
-
 -- the value that a turn reads, and the shift, as the machine reads it back
 item : (c : tie.After-truncate-arg Inv-loop μ-loop) → Within 9200000000 (getD (c .before .before .before .before .before .args .psi .now) (c .before .before .loop .k) (pos 0))
 item c = c .before .before .before .before .before .pre .1 .0 .small (c .before .before .loop .k) (omega arith)
@@ -83,29 +77,11 @@ cast-part c =
     let s = toZ w64 (ofZ w64 (b .args .shift)) in
     record { fits = omega (arith, stored c, newValue-le (b .args .psi .now) s (b .args .target) (c .before .before .before .before .loop .k) (omega arith), b .pre .1 .1 .1) }
 
-mul-part : tie.Need-mul-part Inv-loop μ-loop
-mul-part c = search needs
-
-slice-write-part : tie.Need-slice-write-part Inv-loop μ-loop
-slice-write-part c = search needs
-
-mul-sum : tie.Need-mul-sum Inv-loop μ-loop
-mul-sum c = search needs
-
-array-read-sum : tie.Need-array-read-sum Inv-loop μ-loop
-array-read-sum c = search needs
-
 mul-sum-2 : tie.Need-mul-sum-2 Inv-loop μ-loop
 mul-sum-2 c = record { fits = omega (arith, next c, c .before .before .before .before .before .before .before .pre .1 .1 .1) }
 
 add-sum : tie.Need-add-sum Inv-loop μ-loop
 add-sum c = record { fits = omega (arith, next c, c .before .before .before .before .before .before .before .pre .1 .1 .1) }
-
-add-k : tie.Need-add-k Inv-loop μ-loop
-add-k c = search needs
-
-loop-less : tie.Need-loop-less Inv-loop μ-loop
-loop-less c = search needs
 
 loop-again : tie.Need-loop-again Inv-loop μ-loop
 loop-again c =
@@ -147,4 +123,4 @@ returns c =
     ∙ ap (λ z. closedUnlevelled quadratic (shifted (a .psi .now) z) (a .target)) (toZ-ofZ (b .fits .shift))
 
 pub close-shifted-spec : {M : Type 1} → statement M
-close-shifted-spec = tie.close (tie.spec Inv-loop μ-loop truncated-sum-requires loop-holds mul-truncate shared-slice-copy-out-truncate truncate-requires rescale-requires cast-part mul-part slice-write-part mul-sum array-read-sum mul-sum-2 add-sum add-k loop-less loop-again sub-part cast-part-2 slice-write-part-2 same-length returns)
+close-shifted-spec = tie.close (tie.spec Inv-loop μ-loop truncated-sum-requires loop-holds (λ c. search needs) (λ c. search needs) truncate-requires rescale-requires cast-part (λ c. search needs) (λ c. search needs) (λ c. search needs) (λ c. search needs) mul-sum-2 add-sum (λ c. search needs) (λ c. search needs) loop-again sub-part cast-part-2 slice-write-part-2 same-length returns)

@@ -16,12 +16,6 @@ use Rattle.rules.specs.Limiter.{meanShift}
 use Rattle.limiter.proofs.mean_shift.Statement.{statement}
 use Rattle.limiter.proofs.mean_shift.Tie as tie
 
-weighted-sum-requires : tie.Need-weighted-sum-requires
-weighted-sum-requires c κs = search needs
-
-cast-floor-div : tie.Need-cast-floor-div
-cast-floor-div c = search needs
-
 -- the target as a signed number, and the difference that is divided
 target-is : (c : tie.After-weighted-sum) → Are 500000000 (toZ w64 (c .before .args .target)) (pos (c .before .args .target))
 target-is c = record { same = toZ-pos w64 (omega (arith, c .before .pre .1)); bound = record { within = c .before .pre .1 } }
@@ -46,4 +40,4 @@ returns c =
     record { same = ap (λ z. toZ w64 (ofZ w64 z)) e ∙ back-is w64 (floorDiv d 36) small tt; bound = small }
 
 pub mean-shift-spec : {M : Type 1} → statement M
-mean-shift-spec = tie.close (tie.spec weighted-sum-requires cast-floor-div sub-floor-div floor-div-requires returns)
+mean-shift-spec = tie.close (tie.spec (λ c κs. search needs) (λ c. search needs) sub-floor-div floor-div-requires returns)

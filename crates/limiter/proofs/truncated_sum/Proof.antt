@@ -29,12 +29,6 @@ loop-holds : tie.Need-loop-holds Inv-loop μ-loop
 unfolding sum
 loop-holds c = (omega arith, refl)
 
-mul-truncate : tie.Need-mul-truncate Inv-loop μ-loop
-mul-truncate c = search needs
-
-shared-slice-copy-out-truncate : tie.Need-shared-slice-copy-out-truncate Inv-loop μ-loop
-shared-slice-copy-out-truncate c = search needs
-
 -- the value that a turn reads, and the shift, as the machine reads it back
 item : (c : tie.After-truncate-arg Inv-loop μ-loop) → Within 9200000000 (getD (c .before .before .before .args .psi .now) (c .before .before .loop .k) (pos 0))
 item c = c .before .before .before .pre .0 .small (c .before .before .loop .k) (omega arith)
@@ -61,23 +55,11 @@ next c =
     rw (value c, c .before .before .before .loop .inv .1) (sum-more k (λ k. getD weights k 0 * cutValue (a .psi .now) s k)) in
     (e, omega (arith, e, cutSum-le (a .psi .now) s (c .before .before .before .before .pre .0) (shift-small (c .before)) (k + 1) (omega arith)))
 
-mul-sum : tie.Need-mul-sum Inv-loop μ-loop
-mul-sum c = search needs
-
-array-read-sum : tie.Need-array-read-sum Inv-loop μ-loop
-array-read-sum c = search needs
-
 mul-sum-2 : tie.Need-mul-sum-2 Inv-loop μ-loop
 mul-sum-2 c = record { fits = omega (arith, next c) }
 
 add-sum : tie.Need-add-sum Inv-loop μ-loop
 add-sum c = record { fits = omega (arith, next c) }
-
-add-k : tie.Need-add-k Inv-loop μ-loop
-add-k c = search needs
-
-loop-less : tie.Need-loop-less Inv-loop μ-loop
-loop-less c = search needs
 
 loop-again : tie.Need-loop-again Inv-loop μ-loop
 loop-again c = (omega arith, sym (next c .0))
@@ -89,4 +71,4 @@ returns c =
     (rw e at (c .before .loop .inv .1)) ∙ (rw (toZ-ofZ (c .before .before .fits .shift)) (cutSum-all (a .psi .now) (a .shift)))
 
 pub truncated-sum-spec : {M : Type 1} → statement M
-truncated-sum-spec = tie.close (tie.spec Inv-loop μ-loop loop-holds mul-truncate shared-slice-copy-out-truncate truncate-requires mul-sum array-read-sum mul-sum-2 add-sum add-k loop-less loop-again returns)
+truncated-sum-spec = tie.close (tie.spec Inv-loop μ-loop loop-holds (λ c. search needs) (λ c. search needs) truncate-requires (λ c. search needs) (λ c. search needs) mul-sum-2 add-sum (λ c. search needs) (λ c. search needs) loop-again returns)

@@ -24,18 +24,6 @@ loop-holds : tie.Need-loop-holds Inv-loop μ-loop
 unfolding sumℤ
 loop-holds c = (omega arith, record { same = refl; bound = record { within = omega arith } })
 
-mul-sum : tie.Need-mul-sum Inv-loop μ-loop
-mul-sum c = search needs
-
-array-copy-out-sum : tie.Need-array-copy-out-sum Inv-loop μ-loop
-array-copy-out-sum c = search needs
-
-mul-sum-2 : tie.Need-mul-sum-2 Inv-loop μ-loop
-mul-sum-2 c = search needs
-
-shared-slice-copy-out-sum : tie.Need-shared-slice-copy-out-sum Inv-loop μ-loop
-shared-slice-copy-out-sum c = search needs
-
 -- the value that a turn reads
 value : (c : tie.After-sum2 Inv-loop μ-loop) → Within 9200000000 (getD (c .before .before .before .before .args .psi .now) (c .before .before .before .loop .k) (pos 0))
 value c = c .before .before .before .before .pre .small (c .before .before .before .loop .k) (omega arith)
@@ -45,12 +33,6 @@ mul-sum-3 c = let h = value c in fits (search sizes depth 20) tt
 
 add-sum : tie.Need-add-sum Inv-loop μ-loop
 add-sum c = let h = value c in let s = c .before .before .before .loop .inv .1 in fits (search sizes depth 20) tt
-
-add-k : tie.Need-add-k Inv-loop μ-loop
-add-k c = search needs
-
-loop-less : tie.Need-loop-less Inv-loop μ-loop
-loop-less c = search needs
 
 loop-again : tie.Need-loop-again Inv-loop μ-loop
 loop-again c =
@@ -64,4 +46,4 @@ returns : tie.Need-returns Inv-loop μ-loop
 returns c = let l = c .before .before .args .psi .now in let e : c .before .loop .k ≡ 9 = omega arith in are-eq (rw e at (c .before .loop .inv .1)) (terms-are l)
 
 pub weighted-sum-spec : {M : Type 1} → statement M
-weighted-sum-spec = tie.close (tie.spec Inv-loop μ-loop loop-holds mul-sum array-copy-out-sum mul-sum-2 shared-slice-copy-out-sum mul-sum-3 add-sum add-k loop-less loop-again returns)
+weighted-sum-spec = tie.close (tie.spec Inv-loop μ-loop loop-holds (λ c. search needs) (λ c. search needs) (λ c. search needs) (λ c. search needs) mul-sum-3 add-sum (λ c. search needs) (λ c. search needs) loop-again returns)

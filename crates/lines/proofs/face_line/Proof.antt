@@ -6,39 +6,6 @@ use Rattle.text.proofs.AddedLaws.{added-length, added-room, same-bytes, then}
 use Rattle.lines.proofs.face_line.Statement.{statement}
 use Rattle.lines.proofs.face_line.Tie as tie
 
-slice-aggregate-put : tie.Need-slice-aggregate-put
-slice-aggregate-put c = search needs
-
-put-requires : tie.Need-put-requires
-put-requires c κs = search needs
-
-number-requires : tie.Need-number-requires
-number-requires c κs = search needs
-
-way-word-requires : tie.Need-way-word-requires
-way-word-requires c κs = search needs
-
-number-requires-2 : tie.Need-number-requires-2
-number-requires-2 c κs = search needs
-
-slice-aggregate-put-2 : tie.Need-slice-aggregate-put-2
-slice-aggregate-put-2 c = search needs
-
-put-requires-2 : tie.Need-put-requires-2
-put-requires-2 c κs = search needs
-
-number-requires-3 : tie.Need-number-requires-3
-number-requires-3 c κs = search needs
-
-slice-aggregate-put-3 : tie.Need-slice-aggregate-put-3
-slice-aggregate-put-3 c = search needs
-
-put-requires-3 : tie.Need-put-requires-3
-put-requires-3 c κs = search needs
-
-signed-requires : tie.Need-signed-requires
-signed-requires c κs = search needs
-
 newline-requires : tie.Need-newline-requires
 newline-requires c κs =
     let c8 = c .before in
@@ -79,17 +46,17 @@ pub face-line-spec : {M : Type 1} → statement M
 face-line-spec =
     tie.close
     (tie.spec
-    slice-aggregate-put
-    put-requires
-    number-requires
-    way-word-requires
-    number-requires-2
-    slice-aggregate-put-2
-    put-requires-2
-    number-requires-3
-    slice-aggregate-put-3
-    put-requires-3
-    signed-requires
+    (λ c. search needs)
+    (λ c κs. search needs)
+    (λ c κs. search needs)
+    (λ c κs. search needs)
+    (λ c κs. search needs)
+    (λ c. search needs)
+    (λ c κs. search needs)
+    (λ c κs. search needs)
+    (λ c. search needs)
+    (λ c κs. search needs)
+    (λ c κs. search needs)
     newline-requires
     same-length
     returns)

@@ -27,12 +27,6 @@ face-row-requires c κs =
     let t = c .before .loop-test .taken in
     (b .pre .0, (t, (b .pre .1 .0, block-room (b .args .shape .nx * 96) _ (l .inv .1) (b .args .shape .ny) t (b .pre .1 .1))))
 
-add-j : tie.Need-add-j Inv-loop μ-loop
-add-j c = search needs
-
-loop-less : tie.Need-loop-less Inv-loop μ-loop
-loop-less c = search needs
-
 loop-again : tie.Need-loop-again Inv-loop μ-loop
 loop-again c =
     let l = c .before .before .before .before .before .loop in
@@ -57,8 +51,8 @@ face-lines-spec =
     μ-loop
     loop-holds
     face-row-requires
-    add-j
-    loop-less
+    (λ c. search needs)
+    (λ c. search needs)
     loop-again
     same-length
     returns)

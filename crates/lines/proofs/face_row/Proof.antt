@@ -56,12 +56,6 @@ face-line-requires c κs =
     let b = c .before .before .before .before .before .before in
     block-room 96 _ (l .inv .1) (b .args .shape .nx) (c .before .before .loop-test .taken) (b .pre .1 .1 .1)
 
-add-i : tie.Need-add-i Inv-loop μ-loop
-add-i c = search needs
-
-loop-less : tie.Need-loop-less Inv-loop μ-loop
-loop-less c = search needs
-
 loop-again : tie.Need-loop-again Inv-loop μ-loop
 loop-again c =
     let l = c .before .before .before .before .before .before .loop in
@@ -90,8 +84,8 @@ face-row-spec =
     mul-face-line
     shared-slice-copy-out-face-line
     face-line-requires
-    add-i
-    loop-less
+    (λ c. search needs)
+    (λ c. search needs)
     loop-again
     same-length
     returns)

@@ -9,12 +9,6 @@ mul-e c =
     let b = c .before in
     record { fits = omega (arith, row-lt (b .args .shape) (b .pre .0) (b .args .j) (b .pre .1), elements-le (b .args .shape) (b .pre .0)) }
 
-enum-told : tie.Need-enum-told
-enum-told c = search needs
-
-enum-told-2 : tie.Need-enum-told-2
-enum-told-2 c = search needs
-
 mul-result : tie.Need-mul-result
 mul-result c =
     let b = c .before .before .before .before in
@@ -33,4 +27,4 @@ returns-2 c = rw (c .before .enum-told2 .given .1) (omega arith)
 
 pub first-face-spec : {M : Type 1} → statement M
 first-face-spec =
-    tie.close (tie.spec mul-e enum-told enum-told-2 mul-result add-result returns returns-2)
+    tie.close (tie.spec mul-e (λ c. search needs) (λ c. search needs) mul-result add-result returns returns-2)

@@ -4,39 +4,6 @@ use Rattle.text.proofs.AddedLaws.{then}
 use Rattle.lines.proofs.grid_line.Statement.{statement}
 use Rattle.lines.proofs.grid_line.Tie as tie
 
-slice-aggregate-put : tie.Need-slice-aggregate-put
-slice-aggregate-put c = search needs
-
-put-requires : tie.Need-put-requires
-put-requires c κs = search needs
-
-number-requires : tie.Need-number-requires
-number-requires c κs = search needs
-
-slice-aggregate-put-2 : tie.Need-slice-aggregate-put-2
-slice-aggregate-put-2 c = search needs
-
-put-requires-2 : tie.Need-put-requires-2
-put-requires-2 c κs = search needs
-
-number-requires-2 : tie.Need-number-requires-2
-number-requires-2 c κs = search needs
-
-slice-aggregate-put-3 : tie.Need-slice-aggregate-put-3
-slice-aggregate-put-3 c = search needs
-
-put-requires-3 : tie.Need-put-requires-3
-put-requires-3 c κs = search needs
-
-number-requires-3 : tie.Need-number-requires-3
-number-requires-3 c κs = search needs
-
-newline-requires : tie.Need-newline-requires
-newline-requires c κs = search needs
-
-same-length : tie.Need-same-length
-same-length c = search needs
-
 returns : tie.Need-returns
 unfolding gridLine
 returns c =
@@ -52,15 +19,15 @@ pub grid-line-spec : {M : Type 1} → statement M
 grid-line-spec =
     tie.close
     (tie.spec
-    slice-aggregate-put
-    put-requires
-    number-requires
-    slice-aggregate-put-2
-    put-requires-2
-    number-requires-2
-    slice-aggregate-put-3
-    put-requires-3
-    number-requires-3
-    newline-requires
-    same-length
+    (λ c. search needs)
+    (λ c κs. search needs)
+    (λ c κs. search needs)
+    (λ c. search needs)
+    (λ c κs. search needs)
+    (λ c κs. search needs)
+    (λ c. search needs)
+    (λ c κs. search needs)
+    (λ c κs. search needs)
+    (λ c κs. search needs)
+    (λ c. search needs)
     returns)

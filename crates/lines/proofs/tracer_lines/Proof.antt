@@ -5,18 +5,6 @@ use Rattle.text.proofs.AddedLaws.{then, wider}
 use Rattle.lines.proofs.tracer_lines.Statement.{statement}
 use Rattle.lines.proofs.tracer_lines.Tie as tie
 
-face-lines-requires : tie.Need-face-lines-requires
-face-lines-requires c κs = search needs
-
-face-lines-requires-2 : tie.Need-face-lines-requires-2
-face-lines-requires-2 c κs = search needs
-
-total-line-requires : tie.Need-total-line-requires
-total-line-requires c κs = search needs
-
-same-length : tie.Need-same-length
-same-length c = search needs
-
 returns : tie.Need-returns
 unfolding tracerLines
 returns c =
@@ -27,4 +15,4 @@ returns c =
 pub tracer-lines-spec : {M : Type 1} → statement M
 tracer-lines-spec =
     tie.close
-    (tie.spec face-lines-requires face-lines-requires-2 total-line-requires same-length returns)
+    (tie.spec (λ c κs. search needs) (λ c κs. search needs) (λ c κs. search needs) (λ c. search needs) returns)

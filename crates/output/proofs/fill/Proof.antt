@@ -12,33 +12,12 @@ use borrow.Author.Needs.{needs}
 use Rattle.output.proofs.fill.Statement.{statement}
 use Rattle.output.proofs.fill.Tie as tie
 
-refused-line-requires : tie.Need-refused-line-requires
-refused-line-requires c κs = search needs
-
-same-length : tie.Need-same-length
-same-length c = search needs
-
 returns : tie.Need-returns
 returns c =
     let t = c .before .before .before .before in
     let b = t .before .before .before .before in
     let a = c .before .before .refused-line .ensures in
     (omega (arith, end-le a, b .pre .1 .1 .1), front-added a ∙ long-printed (b .args .file .now) (b .args .field .now) (b .args .wind .now) (t .if1 .taken))
-
-read-requires : tie.Need-read-requires
-read-requires c κs = search needs
-
-enum-known-answer : tie.Need-enum-known-answer
-enum-known-answer c = search needs
-
-refusal-number-requires : tie.Need-refusal-number-requires
-refusal-number-requires c κs = search needs
-
-refused-line-requires-2 : tie.Need-refused-line-requires-2
-refused-line-requires-2 c κs = search needs
-
-enum-known-answer-2 : tie.Need-enum-known-answer-2
-enum-known-answer-2 c = search needs
 
 tracers-requires : tie.Need-tracers-requires
 tracers-requires c κs =
@@ -49,26 +28,8 @@ tracers-requires c κs =
     let few : faces g ≤ 256 = omega (arith, s .wind-room, b .pre .0) in
     (true-of (admitted g) (s .ranges), (b .pre .1 .0, (b .pre .1 .1 .0, (few, omega (arith, text-fits g (s .ranges) few, b .pre .1 .1 .1)))))
 
-enum-known-added : tie.Need-enum-known-added
-enum-known-added c = search needs
-
-refusal-number-requires-2 : tie.Need-refusal-number-requires-2
-refusal-number-requires-2 c κs = search needs
-
 refused-line-requires-3 : tie.Need-refused-line-requires-3
 refused-line-requires-3 c κs = omega (arith, c .before .before .before .before .before .before .before .before .before .before .out3 .given, c .before .before .before .before .before .before .before .before .before .before .before .before .before .before .before .before .before .before .before .before .before .before .before .before .before .before .before .before .before .before .pre .1 .1 .1)
-
-enum-known-added-2 : tie.Need-enum-known-added-2
-enum-known-added-2 c = search needs
-
-same-length-2 : tie.Need-same-length-2
-same-length-2 c = search needs
-
-same-length-3 : tie.Need-same-length-3
-same-length-3 c = search needs
-
-same-length-4 : tie.Need-same-length-4
-same-length-4 c = search needs
 
 returns-2 : tie.Need-returns-2
 returns-2 c =
@@ -79,21 +40,6 @@ returns-2 c =
       omega (arith, end-le a, b .pre .1 .1 .1),
       front-added a ∙ ap refusedLine (c .before .before .before .refusal-number .ensures) ∙ refused-printed (b .args .file .now) (b .args .field .now) (b .args .wind .now) (t .if1 .left) _ (sym (r .read .ensures .0) ∙ ap fileAnswer (c .before .before .before .before .before .before .answer .given .1)),
     )
-
-same-length-5 : tie.Need-same-length-5
-same-length-5 c = search needs
-
-same-length-6 : tie.Need-same-length-6
-same-length-6 c = search needs
-
-same-length-7 : tie.Need-same-length-7
-same-length-7 c = search needs
-
-same-length-8 : tie.Need-same-length-8
-same-length-8 c = search needs
-
-same-length-9 : tie.Need-same-length-9
-same-length-9 c = search needs
 
 returns-3 : tie.Need-returns-3
 returns-3 c =
@@ -106,21 +52,6 @@ returns-3 c =
       front-added a ∙ ap refusedLine (c .before .before .before .refusal-number2 .ensures) ∙ refusal-text _ _ (refusal-of _ _ _ _ _ _ (c .before .before .before .before .before .before .added .given .1) (t .tracers .ensures))
           ∙ text-printed (b .args .file .now) (b .args .field .now) (b .args .wind .now) (i .if1 .left) (c .before .before .before .before .before .before .before .before .before .before .before .before .before .before .before .before .before .before .before .before .before .answer2 .given .0 .0) _ _ (sym (r .read .ensures .0) ∙ ap fileAnswer (c .before .before .before .before .before .before .before .before .before .before .before .before .before .before .before .before .before .before .before .before .before .answer2 .given .1)) (r .read .ensures .1 .0) (r .read .ensures .1 .1),
     )
-
-same-length-10 : tie.Need-same-length-10
-same-length-10 c = search needs
-
-same-length-11 : tie.Need-same-length-11
-same-length-11 c = search needs
-
-same-length-12 : tie.Need-same-length-12
-same-length-12 c = search needs
-
-same-length-13 : tie.Need-same-length-13
-same-length-13 c = search needs
-
-same-length-14 : tie.Need-same-length-14
-same-length-14 c = search needs
 
 returns-4 : tie.Need-returns-4
 returns-4 c =
@@ -138,32 +69,32 @@ pub fill-spec : {M : Type 1} → statement M
 fill-spec =
     tie.close
     (tie.spec
-    refused-line-requires
-    same-length
+    (λ c κs. search needs)
+    (λ c. search needs)
     returns
-    read-requires
-    enum-known-answer
-    refusal-number-requires
-    refused-line-requires-2
-    enum-known-answer-2
+    (λ c κs. search needs)
+    (λ c. search needs)
+    (λ c κs. search needs)
+    (λ c κs. search needs)
+    (λ c. search needs)
     tracers-requires
-    enum-known-added
-    refusal-number-requires-2
+    (λ c. search needs)
+    (λ c κs. search needs)
     refused-line-requires-3
-    enum-known-added-2
-    same-length-2
-    same-length-3
-    same-length-4
+    (λ c. search needs)
+    (λ c. search needs)
+    (λ c. search needs)
+    (λ c. search needs)
     returns-2
-    same-length-5
-    same-length-6
-    same-length-7
-    same-length-8
-    same-length-9
+    (λ c. search needs)
+    (λ c. search needs)
+    (λ c. search needs)
+    (λ c. search needs)
+    (λ c. search needs)
     returns-3
-    same-length-10
-    same-length-11
-    same-length-12
-    same-length-13
-    same-length-14
+    (λ c. search needs)
+    (λ c. search needs)
+    (λ c. search needs)
+    (λ c. search needs)
+    (λ c. search needs)
     returns-4)

@@ -31,23 +31,11 @@ tracer-requires c κs =
     let b = g .before .before .before .before in
     (b .pre .0, (l .inv .2, (l .inv .3, (b .pre .1 .1 .1 .0, room-left (b .args .shape) (b .args .wind .now) (g .grid-line .ensures) (l .inv .1) (i .loop-test .taken) (b .pre .1 .1 .1 .1)))))
 
-enum-known-added : tie.Need-enum-known-added Inv-loop μ-loop
-enum-known-added c = search needs
-
-enum-told : tie.Need-enum-told Inv-loop μ-loop
-enum-told c = search needs
-
 same-length : tie.Need-same-length Inv-loop μ-loop
 same-length c = c .before .before .before .before .before .before .before .out2 .given ∙ c .before .before .before .before .before .before .before .before .before .before .before .before .before .before .loop .inv .4 ∙ c .before .before .before .before .before .before .before .before .before .before .before .before .before .before .before .before .out .given
 
 same-length-2 : tie.Need-same-length-2 Inv-loop μ-loop
 same-length-2 c = c .before .before .before .before .before .field .given ∙ c .before .before .before .before .before .before .before .before .before .before .before .before .before .before .loop .inv .5
-
-same-length-3 : tie.Need-same-length-3 Inv-loop μ-loop
-same-length-3 c = search needs
-
-same-length-4 : tie.Need-same-length-4 Inv-loop μ-loop
-same-length-4 c = search needs
 
 returns : tie.Need-returns Inv-loop μ-loop
 returns c =
@@ -56,12 +44,6 @@ returns c =
     let l = i .before .loop in
     let b = i .before .before .before .before .before .before .before .before in
     all-refused (b .args .shape) (b .args .wind .now) (b .args .field .now) _ _ _ _ _ _ (l .inv .1) (i .loop-test .taken) (c .enum-told .given .1) (t .tracer .ensures)
-
-add-s : tie.Need-add-s Inv-loop μ-loop
-add-s c = search needs
-
-loop-less : tie.Need-loop-less Inv-loop μ-loop
-loop-less c = search needs
 
 loop-again : tie.Need-loop-again Inv-loop μ-loop
 loop-again c =
@@ -76,12 +58,6 @@ same-length-5 c = c .before .loop .inv .4 ∙ c .before .before .before .out .gi
 
 same-length-6 : tie.Need-same-length-6 Inv-loop μ-loop
 same-length-6 c = c .before .loop .inv .5
-
-same-length-7 : tie.Need-same-length-7 Inv-loop μ-loop
-same-length-7 c = search needs
-
-same-length-8 : tie.Need-same-length-8 Inv-loop μ-loop
-same-length-8 c = search needs
 
 returns-2 : tie.Need-returns-2 Inv-loop μ-loop
 returns-2 c =
@@ -100,18 +76,18 @@ tracers-spec =
     grid-line-requires
     loop-holds
     tracer-requires
-    enum-known-added
-    enum-told
+    (λ c. search needs)
+    (λ c. search needs)
     same-length
     same-length-2
-    same-length-3
-    same-length-4
+    (λ c. search needs)
+    (λ c. search needs)
     returns
-    add-s
-    loop-less
+    (λ c. search needs)
+    (λ c. search needs)
     loop-again
     same-length-5
     same-length-6
-    same-length-7
-    same-length-8
+    (λ c. search needs)
+    (λ c. search needs)
     returns-2)

@@ -7,8 +7,5 @@ use Rattle.places.proofs.elements.Tie as tie
 mul-result : tie.Need-mul-result
 mul-result c = record { fits = omega (arith, elements-le (c .before .args .shape) (c .before .pre)) }
 
-returns : tie.Need-returns
-returns c = search needs
-
 pub elements-spec : {M : Type 1} → statement M
-elements-spec = tie.close (tie.spec mul-result returns)
+elements-spec = tie.close (tie.spec mul-result (λ c. search needs))

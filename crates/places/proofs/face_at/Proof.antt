@@ -20,12 +20,6 @@ add-e c =
     let h = c .before .before .before .pre in
     record { fits = omega (arith, element-lt (a .shape) (a .face .i) (a .face .j) (h .column) (h .row), elements-le (a .shape) (h .sized)) }
 
-enum-told : tie.Need-enum-told
-enum-told c = search needs
-
-enum-told-2 : tie.Need-enum-told-2
-enum-told-2 c = search needs
-
 elements-requires : tie.Need-elements-requires
 elements-requires c κs = c .before .before .before .before .before .pre .sized
 
@@ -44,4 +38,4 @@ returns-2 c =
     rw (c .before .enum-told2 .given .1) (ap (λ n. n + element (a .shape) (a .face .i) (a .face .j)) (c .elements .ensures))
 
 pub face-at-spec : {M : Type 1} → statement M
-face-at-spec = tie.close (tie.spec mul-e add-e enum-told enum-told-2 elements-requires add-result returns returns-2)
+face-at-spec = tie.close (tie.spec mul-e add-e (λ c. search needs) (λ c. search needs) elements-requires add-result returns returns-2)

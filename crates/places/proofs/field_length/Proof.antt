@@ -6,9 +6,6 @@ use Rattle.places.proofs.PlaceLaws.{field-is, field-le}
 use Rattle.places.proofs.field_length.Statement.{statement}
 use Rattle.places.proofs.field_length.Tie as tie
 
-tracer-length-requires : tie.Need-tracer-length-requires
-tracer-length-requires c κs = search needs
-
 mul-result : tie.Need-mul-result
 mul-result c = let s = c .before .before .args .shape in rw (c .before .tracer-length .ensures) (record { fits = omega (arith, field-le s (c .before .before .pre)) })
 
@@ -16,4 +13,4 @@ returns : tie.Need-returns
 returns c = let s = c .before .before .args .shape in ap (λ n. s .tracers * n) (c .before .tracer-length .ensures) ∙ sym (field-is s)
 
 pub field-length-spec : {M : Type 1} → statement M
-field-length-spec = tie.close (tie.spec tracer-length-requires mul-result returns)
+field-length-spec = tie.close (tie.spec (λ c κs. search needs) mul-result returns)

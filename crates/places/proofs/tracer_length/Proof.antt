@@ -6,9 +6,6 @@ use Rattle.places.proofs.PlaceLaws.{elements-le, tracer-is}
 use Rattle.places.proofs.tracer_length.Statement.{statement}
 use Rattle.places.proofs.tracer_length.Tie as tie
 
-elements-requires : tie.Need-elements-requires
-elements-requires c κs = search needs
-
 mul-result : tie.Need-mul-result
 mul-result c = record { fits = omega (arith, c .elements .ensures, elements-le (c .before .args .shape) (c .before .pre)) }
 
@@ -16,4 +13,4 @@ returns : tie.Need-returns
 returns c = ap (λ n. n * 10) (c .elements .ensures) ∙ sym (tracer-is (c .before .args .shape))
 
 pub tracer-length-spec : {M : Type 1} → statement M
-tracer-length-spec = tie.close (tie.spec elements-requires mul-result returns)
+tracer-length-spec = tie.close (tie.spec (λ c κs. search needs) mul-result returns)

@@ -6,9 +6,6 @@ use Rattle.places.proofs.PlaceLaws.{start-le}
 use Rattle.places.proofs.tracer_start.Statement.{statement}
 use Rattle.places.proofs.tracer_start.Tie as tie
 
-tracer-length-requires : tie.Need-tracer-length-requires
-tracer-length-requires c κs = search needs
-
 mul-result : tie.Need-mul-result
 mul-result c = let s = c .before .args .shape in rw (c .tracer-length .ensures) (record { fits = omega (arith, start-le s (c .before .args .tracer) (c .before .pre .0) (c .before .pre .1)) })
 
@@ -16,4 +13,4 @@ returns : tie.Need-returns
 returns c = ap (λ n. c .before .args .tracer * n) (c .tracer-length .ensures)
 
 pub tracer-start-spec : {M : Type 1} → statement M
-tracer-start-spec = tie.close (tie.spec tracer-length-requires mul-result returns)
+tracer-start-spec = tie.close (tie.spec (λ c κs. search needs) mul-result returns)

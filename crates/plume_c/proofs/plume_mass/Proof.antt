@@ -7,9 +7,6 @@ use borrow.Author.Needs.{needs}
 use Rattle.plume_c.proofs.plume_mass.Statement.{statement}
 use Rattle.plume_c.proofs.plume_mass.Tie as tie
 
-mass-requires : tie.Need-mass-requires
-mass-requires c κs = search needs
-
 number-or-requires : tie.Need-number-or-requires
 number-or-requires c κs = subst Small (sym (c .mass .ensures)) (mass-answers _ _ _ _ _)
 
@@ -17,4 +14,4 @@ returns : tie.Need-returns
 returns c = read-back w64 (c .number-or .ensures) tt ∙ ap numberOr (c .before .mass .ensures)
 
 pub plume-mass-spec : {M : Type 1} → statement M
-plume-mass-spec = tie.close (tie.spec mass-requires number-or-requires returns)
+plume-mass-spec = tie.close (tie.spec (λ c κs. search needs) number-or-requires returns)

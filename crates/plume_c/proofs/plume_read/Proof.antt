@@ -7,21 +7,12 @@ use borrow.Author.Needs.{needs}
 use Rattle.plume_c.proofs.plume_read.Statement.{statement}
 use Rattle.plume_c.proofs.plume_read.Tie as tie
 
-read-requires : tie.Need-read-requires
-read-requires c κs = search needs
-
 shape-or-requires : tie.Need-shape-or-requires
 shape-or-requires c κs = subst SmallShape (sym (c .before .before .before .read .ensures .0)) (read-answers _ _ _)
-
-same-length : tie.Need-same-length
-same-length c = search needs
-
-same-length-2 : tie.Need-same-length-2
-same-length-2 c = search needs
 
 returns : tie.Need-returns
 returns c = let d = c .before .before .before .before .read .ensures in (read-back w64 (c .shape-or .ensures) tt ∙ ap shapeOr (d .0), d .1)
 
 pub plume-read-spec : {M : Type 1} → statement M
 plume-read-spec =
-    tie.close (tie.spec read-requires shape-or-requires same-length same-length-2 returns)
+    tie.close (tie.spec (λ c κs. search needs) shape-or-requires (λ c. search needs) (λ c. search needs) returns)

@@ -7,9 +7,6 @@ use borrow.Author.Needs.{needs}
 use Rattle.plume_c.proofs.plume_total.Statement.{statement}
 use Rattle.plume_c.proofs.plume_total.Tie as tie
 
-total-requires : tie.Need-total-requires
-total-requires c κs = search needs
-
 number-or-requires : tie.Need-number-or-requires
 number-or-requires c κs = subst Small (sym (c .total .ensures)) (total-answers _ _ _)
 
@@ -17,4 +14,4 @@ returns : tie.Need-returns
 returns c = read-back w64 (c .number-or .ensures) tt ∙ ap numberOr (c .before .total .ensures)
 
 pub plume-total-spec : {M : Type 1} → statement M
-plume-total-spec = tie.close (tie.spec total-requires number-or-requires returns)
+plume-total-spec = tie.close (tie.spec (λ c κs. search needs) number-or-requires returns)

@@ -6,18 +6,6 @@ use borrow.Author.Needs.{needs}
 use Rattle.plume_c.proofs.plume_wind.Statement.{statement}
 use Rattle.plume_c.proofs.plume_wind.Tie as tie
 
-face-requires : tie.Need-face-requires
-face-requires c κs = search needs
-
-wind-requires : tie.Need-wind-requires
-wind-requires c κs = search needs
-
-code-requires : tie.Need-code-requires
-code-requires c κs = search needs
-
-same-length : tie.Need-same-length
-same-length c = search needs
-
 returns : tie.Need-returns
 returns c =
     let d = c .before .before .wind .ensures in
@@ -29,4 +17,4 @@ returns c =
 
 pub plume-wind-spec : {M : Type 1} → statement M
 plume-wind-spec =
-    tie.close (tie.spec face-requires wind-requires code-requires same-length returns)
+    tie.close (tie.spec (λ c κs. search needs) (λ c κs. search needs) (λ c κs. search needs) (λ c. search needs) returns)

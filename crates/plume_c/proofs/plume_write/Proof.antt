@@ -7,17 +7,11 @@ use borrow.Author.Needs.{needs}
 use Rattle.plume_c.proofs.plume_write.Statement.{statement}
 use Rattle.plume_c.proofs.plume_write.Tie as tie
 
-write-requires : tie.Need-write-requires
-write-requires c κs = search needs
-
 number-or-requires : tie.Need-number-or-requires
 number-or-requires c κs = subst Small (sym (c .before .before .write .ensures .0)) (write-answers _ _ _ _)
-
-same-length : tie.Need-same-length
-same-length c = search needs
 
 returns : tie.Need-returns
 returns c = let d = c .before .before .before .write .ensures in (read-back w64 (c .number-or .ensures) tt ∙ ap numberOr (d .0), d .1)
 
 pub plume-write-spec : {M : Type 1} → statement M
-plume-write-spec = tie.close (tie.spec write-requires number-or-requires same-length returns)
+plume-write-spec = tie.close (tie.spec (λ c κs. search needs) number-or-requires (λ c. search needs) returns)

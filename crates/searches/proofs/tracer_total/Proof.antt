@@ -73,12 +73,6 @@ shared-slice-read-x c = let r = room (c .before .before .before) in omega arith
 cast-x : tie.Need-cast-x Inv-numbers μ-numbers Inv-elements μ-elements Inv-rows μ-rows
 cast-x c = omega (arith, c .shared-slice-known .given (c .before .before .before .before .elements .start + c .before .before .numbers .v))
 
-mul-sum : tie.Need-mul-sum Inv-numbers μ-numbers Inv-elements μ-elements Inv-rows μ-rows
-mul-sum c = search needs
-
-array-read-sum : tie.Need-array-read-sum Inv-numbers μ-numbers Inv-elements μ-elements Inv-rows μ-rows
-array-read-sum c = search needs
-
 mul-sum-2 : tie.Need-mul-sum-2 Inv-numbers μ-numbers Inv-elements μ-elements Inv-rows μ-rows
 mul-sum-2 c =
     let n = c .before .before .before .numbers in
@@ -92,12 +86,6 @@ add-sum c =
     let e = c .before .before .before .before .before in
     let k = e .elements .start + n .v in
     omega (arith, c .before .shared-slice-known .given k, weight-le (n .v) (getD (e .before .before .before .args .part .now) k 0) (omega arith))
-
-add-v : tie.Need-add-v Inv-numbers μ-numbers Inv-elements μ-elements Inv-rows μ-rows
-add-v c = search needs
-
-numbers-less : tie.Need-numbers-less Inv-numbers μ-numbers Inv-elements μ-elements Inv-rows μ-rows
-numbers-less c = search needs
 
 numbers-again : tie.Need-numbers-again Inv-numbers μ-numbers Inv-elements μ-elements Inv-rows μ-rows
 numbers-again c =
@@ -118,12 +106,6 @@ numbers-again c =
 add-start : tie.Need-add-start Inv-numbers μ-numbers Inv-elements μ-elements Inv-rows μ-rows
 add-start c = let r = room (c .before .before) in omega arith
 
-add-i : tie.Need-add-i Inv-numbers μ-numbers Inv-elements μ-elements Inv-rows μ-rows
-add-i c = search needs
-
-elements-less : tie.Need-elements-less Inv-numbers μ-numbers Inv-elements μ-elements Inv-rows μ-rows
-elements-less c = search needs
-
 elements-again : tie.Need-elements-again Inv-numbers μ-numbers Inv-elements μ-elements Inv-rows μ-rows
 elements-again c =
     let b = c .before .before .before in
@@ -142,12 +124,6 @@ elements-again c =
       omega arith,
       omega arith,
     )
-
-add-j : tie.Need-add-j Inv-numbers μ-numbers Inv-elements μ-elements Inv-rows μ-rows
-add-j c = search needs
-
-rows-less : tie.Need-rows-less Inv-numbers μ-numbers Inv-elements μ-elements Inv-rows μ-rows
-rows-less c = search needs
 
 rows-again : tie.Need-rows-again Inv-numbers μ-numbers Inv-elements μ-elements Inv-rows μ-rows
 rows-again c =
@@ -189,4 +165,4 @@ returns-2 : tie.Need-returns-2 Inv-numbers μ-numbers Inv-elements μ-elements I
 returns-2 c = sym (outcome (c .before) ∙ rw (c .if4 .left))
 
 pub tracer-total-spec : {M : Type 1} → statement M
-tracer-total-spec = tie.close (tie.spec Inv-numbers μ-numbers Inv-elements μ-elements Inv-rows μ-rows rows-holds elements-holds numbers-holds add-x mul-x shared-slice-read-x cast-x mul-sum array-read-sum mul-sum-2 add-sum add-v numbers-less numbers-again add-start add-i elements-less elements-again add-j rows-less rows-again returns returns-2)
+tracer-total-spec = tie.close (tie.spec Inv-numbers μ-numbers Inv-elements μ-elements Inv-rows μ-rows rows-holds elements-holds numbers-holds add-x mul-x shared-slice-read-x cast-x (λ c. search needs) (λ c. search needs) mul-sum-2 add-sum (λ c. search needs) (λ c. search needs) numbers-again add-start (λ c. search needs) (λ c. search needs) elements-again (λ c. search needs) (λ c. search needs) rows-again returns returns-2)

@@ -26,14 +26,8 @@ loop-holds : tie.Need-loop-holds Inv-loop μ-loop
 unfolding all
 loop-holds c = (omega arith, refl)
 
-mul-wind-in-range : tie.Need-mul-wind-in-range Inv-loop μ-loop
-mul-wind-in-range c = search needs
-
 shared-slice-copy-out-wind-in-range : tie.Need-shared-slice-copy-out-wind-in-range Inv-loop μ-loop
 shared-slice-copy-out-wind-in-range c = omega (arith, c .before .before .faces .ensures, c .before .before .before .pre .1)
-
-wind-in-range-requires : tie.Need-wind-in-range-requires Inv-loop μ-loop
-wind-in-range-requires c κs = search needs
 
 -- the test of a turn is of the stored wind
 tested : (c : tie.After-wind-in-range Inv-loop μ-loop) → c .wind-in-range .result ≡ windInRange (windAt (c .before .before .before .before .before .args .wind .now) (c .before .before .before .loop .f))
@@ -46,12 +40,6 @@ returns c =
     let n = w .before .before .before .before in
     sym (all-fails (faces (n .before .args .shape)) (λ k. windInRange (windAt (n .before .args .wind .now) k)) (w .before .before .before .loop .f) (omega (arith, n .faces .ensures)) (sym (tested w) ∙ not-true _ (c .if1 .taken)))
 
-add-f : tie.Need-add-f Inv-loop μ-loop
-add-f c = search needs
-
-loop-less : tie.Need-loop-less Inv-loop μ-loop
-loop-less c = search needs
-
 loop-again : tie.Need-loop-again Inv-loop μ-loop
 loop-again c =
     let w = c .before in
@@ -63,4 +51,4 @@ unfolding windSound
 returns-2 c = let e : c .before .loop .f ≡ faces (c .before .before .before .args .shape) = omega (arith, c .before .before .faces .ensures) in sym (rw e at (c .before .loop .inv .1))
 
 pub winds-sound-spec : {M : Type 1} → statement M
-winds-sound-spec = tie.close (tie.spec Inv-loop μ-loop faces-requires loop-holds mul-wind-in-range shared-slice-copy-out-wind-in-range wind-in-range-requires returns add-f loop-less loop-again returns-2)
+winds-sound-spec = tie.close (tie.spec Inv-loop μ-loop faces-requires loop-holds (λ c. search needs) shared-slice-copy-out-wind-in-range (λ c κs. search needs) returns (λ c. search needs) (λ c. search needs) loop-again returns-2)

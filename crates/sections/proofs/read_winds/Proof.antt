@@ -24,24 +24,6 @@ loop-holds : tie.Need-loop-holds Inv-loop μ-loop
 unfolding table
 loop-holds c = (omega arith, refl, refl)
 
-mul-number16 : tie.Need-mul-number16 Inv-loop μ-loop
-mul-number16 c = search needs
-
-number16-requires : tie.Need-number16-requires Inv-loop μ-loop
-number16-requires c κs = search needs
-
-mul-wind : tie.Need-mul-wind Inv-loop μ-loop
-mul-wind c = search needs
-
-slice-set-from-wind : tie.Need-slice-set-from-wind Inv-loop μ-loop
-slice-set-from-wind c = search needs
-
-add-i : tie.Need-add-i Inv-loop μ-loop
-add-i c = search needs
-
-loop-less : tie.Need-loop-less Inv-loop μ-loop
-loop-less c = search needs
-
 loop-again : tie.Need-loop-again Inv-loop μ-loop
 loop-again c =
     let s = c .before .before in
@@ -52,9 +34,6 @@ loop-again c =
       fill-next (l .i) (λ k. number16 (a .section .now) (2 * k)) (a .out .now) (l .out) _ (l .inv .2) (omega arith)
           (toZ-ofZ {w = w16} {z = c .number16 .result} (record { sfits = c .number16 .ok }) ∙ c .number16 .ensures),
     )
-
-same-length : tie.Need-same-length Inv-loop μ-loop
-same-length c = search needs
 
 returns : tie.Need-returns Inv-loop μ-loop
 unfolding windsOf
@@ -70,12 +49,12 @@ read-winds-spec =
     Inv-loop
     μ-loop
     loop-holds
-    mul-number16
-    number16-requires
-    mul-wind
-    slice-set-from-wind
-    add-i
-    loop-less
+    (λ c. search needs)
+    (λ c κs. search needs)
+    (λ c. search needs)
+    (λ c. search needs)
+    (λ c. search needs)
+    (λ c. search needs)
     loop-again
-    same-length
+    (λ c. search needs)
     returns)

@@ -23,15 +23,6 @@ loop-holds : tie.Need-loop-holds Inv-loop μ-loop
 unfolding all
 loop-holds c = (omega arith, refl)
 
-mul-number16 : tie.Need-mul-number16 Inv-loop μ-loop
-mul-number16 c = search needs
-
-number16-requires : tie.Need-number16-requires Inv-loop μ-loop
-number16-requires c κs = search needs
-
-wind-in-range-requires : tie.Need-wind-in-range-requires Inv-loop μ-loop
-wind-in-range-requires c κs = search needs
-
 -- the test of a turn is of the stored wind
 tested : (c : tie.After-wind-in-range Inv-loop μ-loop) → c .wind-in-range .result ≡ windInRange (number16 (c .before .before .before .before .before .args .section .now) (2 * c .before .before .before .loop .f))
 tested c = c .wind-in-range .ensures ∙ ap windInRange (toZ-ofZ {w = w16} {z = c .before .number16 .result} (record { sfits = c .before .number16 .ok }) ∙ c .before .number16 .ensures)
@@ -41,12 +32,6 @@ returns c =
     let w = c .before in
     let a = w .before .before .before .before .before .args in
     sym (all-fails (a .n) (λ k. windInRange (number16 (a .section .now) (2 * k))) (w .before .before .before .loop .f) (omega arith) (sym (tested w) ∙ not-true _ (c .if1 .taken)))
-
-add-f : tie.Need-add-f Inv-loop μ-loop
-add-f c = search needs
-
-loop-less : tie.Need-loop-less Inv-loop μ-loop
-loop-less c = search needs
 
 loop-again : tie.Need-loop-again Inv-loop μ-loop
 loop-again c =
@@ -64,11 +49,11 @@ winds-sound-spec =
     Inv-loop
     μ-loop
     loop-holds
-    mul-number16
-    number16-requires
-    wind-in-range-requires
+    (λ c. search needs)
+    (λ c κs. search needs)
+    (λ c κs. search needs)
     returns
-    add-f
-    loop-less
+    (λ c. search needs)
+    (λ c. search needs)
     loop-again
     returns-2)

@@ -22,33 +22,12 @@ loop-holds : tie.Need-loop-holds Inv-loop μ-loop
 unfolding blocks
 loop-holds c = (omega arith, refl, refl)
 
-mul-put32 : tie.Need-mul-put32 Inv-loop μ-loop
-mul-put32 c = search needs
-
-mul-put32-2 : tie.Need-mul-put32-2 Inv-loop μ-loop
-mul-put32-2 c = search needs
-
-shared-slice-read-put32 : tie.Need-shared-slice-read-put32 Inv-loop μ-loop
-shared-slice-read-put32 c = search needs
-
-put32-requires : tie.Need-put32-requires Inv-loop μ-loop
-put32-requires c κs = search needs
-
-add-i : tie.Need-add-i Inv-loop μ-loop
-add-i c = search needs
-
-loop-less : tie.Need-loop-less Inv-loop μ-loop
-loop-less c = search needs
-
 loop-again : tie.Need-loop-again Inv-loop μ-loop
 loop-again c =
     let s = c .before .before .before .before .before .before in
     let l = s .loop in
     let a = s .before .before .before .args in
     (omega arith, omega arith, c .before .before .put32 .ensures ∙ write-next 4 (λ k. bytes32 (getD (a .numbers .now) k 0)) (λ k. length-bytes32 (getD (a .numbers .now) k 0)) (l .i) (4 * l .i) (a .section .now) (l .section) (mul-comm 4 (l .i)) (l .inv .2))
-
-same-length : tie.Need-same-length Inv-loop μ-loop
-same-length c = search needs
 
 returns : tie.Need-returns Inv-loop μ-loop
 returns c =
@@ -63,12 +42,12 @@ write-numbers-spec =
     Inv-loop
     μ-loop
     loop-holds
-    mul-put32
-    mul-put32-2
-    shared-slice-read-put32
-    put32-requires
-    add-i
-    loop-less
+    (λ c. search needs)
+    (λ c. search needs)
+    (λ c. search needs)
+    (λ c κs. search needs)
+    (λ c. search needs)
+    (λ c. search needs)
     loop-again
-    same-length
+    (λ c. search needs)
     returns)

@@ -25,33 +25,12 @@ loop-holds : tie.Need-loop-holds Inv-loop μ-loop
 unfolding blocks
 loop-holds c = (omega arith, refl, refl)
 
-mul-wind : tie.Need-mul-wind Inv-loop μ-loop
-mul-wind c = search needs
-
-shared-slice-copy-out-wind : tie.Need-shared-slice-copy-out-wind Inv-loop μ-loop
-shared-slice-copy-out-wind c = search needs
-
-mul-put16 : tie.Need-mul-put16 Inv-loop μ-loop
-mul-put16 c = search needs
-
-put16-requires : tie.Need-put16-requires Inv-loop μ-loop
-put16-requires c κs = search needs
-
-add-i : tie.Need-add-i Inv-loop μ-loop
-add-i c = search needs
-
-loop-less : tie.Need-loop-less Inv-loop μ-loop
-loop-less c = search needs
-
 loop-again : tie.Need-loop-again Inv-loop μ-loop
 loop-again c =
     let s = c .before .before .before .before .before .before in
     let l = s .loop in
     let a = s .before .before .args in
     (omega arith, omega arith, c .before .before .put16 .ensures ∙ ap (λ z. overwrite (2 * l .i) (bytes16 z) (l .section)) (toZ-ofZ {w = w16} {z = windAt (a .winds .now) (l .i)} (record { sfits = c .before .before .before .before .wind .given })) ∙ write-next 2 (λ k. bytes16 (windAt (a .winds .now) k)) (λ k. length-bytes16 (windAt (a .winds .now) k)) (l .i) (2 * l .i) (a .section .now) (l .section) (mul-comm 2 (l .i)) (l .inv .2))
-
-same-length : tie.Need-same-length Inv-loop μ-loop
-same-length c = search needs
 
 returns : tie.Need-returns Inv-loop μ-loop
 returns c =
@@ -66,12 +45,12 @@ write-winds-spec =
     Inv-loop
     μ-loop
     loop-holds
-    mul-wind
-    shared-slice-copy-out-wind
-    mul-put16
-    put16-requires
-    add-i
-    loop-less
+    (λ c. search needs)
+    (λ c. search needs)
+    (λ c. search needs)
+    (λ c κs. search needs)
+    (λ c. search needs)
+    (λ c. search needs)
     loop-again
-    same-length
+    (λ c. search needs)
     returns)

@@ -52,23 +52,11 @@ add-end c = record { fits = omega (arith, small c, ends c) }
 mul-sums : tie.Need-mul-sums Inv-loop μ-loop
 mul-sums c = record { fits = omega (arith, small c) }
 
-mul-times : tie.Need-mul-times Inv-loop μ-loop
-mul-times c = search needs
-
-array-copy-out-times : tie.Need-array-copy-out-times Inv-loop μ-loop
-array-copy-out-times c = search needs
-
 loop-holds : tie.Need-loop-holds Inv-loop μ-loop
 loop-holds c = (omega arith, omega arith, omega arith, omega arith, written-none _ _ _ _ _)
 
 mul-tendencies : tie.Need-mul-tendencies Inv-loop μ-loop
 mul-tendencies c = record { fits = omega (arith, small (c .before .before .before), ends (c .before .before .before)) }
-
-sub-tendencies : tie.Need-sub-tendencies Inv-loop μ-loop
-sub-tendencies c = search needs
-
-part-tendencies-start : tie.Need-part-tendencies-start Inv-loop μ-loop
-part-tendencies-start c = search needs
 
 part-tendencies-end : tie.Need-part-tendencies-end Inv-loop μ-loop
 part-tendencies-end c = let g = c .before .before .before .before in omega (arith, ends g, c .before .before .loop .inv .4 .long, g .before .pre .1 .1 .1 .long)
@@ -135,20 +123,11 @@ advance-element-requires c κs =
       (toZ-ofZ (record { sfits = i .before .before .times .given }) ∙ factor-is (b .args .stage), subst (AllWithin 11900000000) (sym (made (c .before .before))) (tendencies-small (b .args .shape) (b .args .wind .now) _ (l .e) (placed i) (b .pre .1 .0) (r .stage))),
     )
 
-add-from : tie.Need-add-from Inv-loop μ-loop
-add-from c = search needs
-
 add-to : tie.Need-add-to Inv-loop μ-loop
 add-to c = let i = c .before .before .before .before .before .before .before in record { fits = omega (arith, small (i .before .before .before), ends (i .before .before .before), i .before .loop .inv .2) }
 
 add-sums : tie.Need-add-sums Inv-loop μ-loop
 add-sums c = let i = c .before .before .before .before .before .before .before in record { fits = omega (arith, small (i .before .before .before), i .before .loop .inv .3) }
-
-add-e : tie.Need-add-e Inv-loop μ-loop
-add-e c = search needs
-
-loop-less : tie.Need-loop-less Inv-loop μ-loop
-loop-less c = search needs
 
 loop-again : tie.Need-loop-again Inv-loop μ-loop
 loop-again c =
@@ -182,4 +161,4 @@ returns c =
     written-moved _ _ _ (sym (rw (add-one (b .args .stage)) (suc-mul (b .args .stage) (section (b .args .shape))))) refl (omega arith) (c .before .loop .inv .4)
 
 pub advance-spec : {M : Type 1} → statement M
-advance-spec = tie.close (tie.spec Inv-loop μ-loop mul-n mul-length mul-start add-end mul-sums mul-times array-copy-out-times loop-holds mul-tendencies sub-tendencies part-tendencies-start part-tendencies-end tendencies-requires advance-element-requires add-from add-to add-sums add-e loop-less loop-again same-length returns)
+advance-spec = tie.close (tie.spec Inv-loop μ-loop mul-n mul-length mul-start add-end mul-sums (λ c. search needs) (λ c. search needs) loop-holds mul-tendencies (λ c. search needs) (λ c. search needs) part-tendencies-end tendencies-requires advance-element-requires (λ c. search needs) add-to add-sums (λ c. search needs) (λ c. search needs) loop-again same-length returns)

@@ -59,12 +59,6 @@ mul-sum c = record { fits = omega (arith, room (c .before)) }
 slice-copy-out-sum : tie.Need-slice-copy-out-sum Inv-loop μ-loop
 slice-copy-out-sum c = omega (arith, room (c .before))
 
-mul-sum-2 : tie.Need-mul-sum-2 Inv-loop μ-loop
-mul-sum-2 c = search needs
-
-element-copy-out-sum : tie.Need-element-copy-out-sum Inv-loop μ-loop
-element-copy-out-sum c = search needs
-
 -- the factor is at most 4
 times-small : (c : tie.In-loop Inv-loop μ-loop) → Within 6 (c .before .before .args .times)
 times-small c = let b = c .before .before in subst (λ (z : ℤ). Within 6 z) (factor-is (b .args .stage) ∙ sym (b .pre .1 .0)) (record { within = peak-at factors (b .args .stage) })
@@ -74,15 +68,6 @@ mul-sum-3 c = let i = c .before .before .before in let h = i .before .before .pr
 
 add-sum-2 : tie.Need-add-sum-2 Inv-loop μ-loop
 add-sum-2 c = let i = c .before .before .before in let h = i .before .before .pre .1 .1 in let f = times-small i in let s = sum-small i in fits (search sizes depth 20) tt
-
-add-sum-3 : tie.Need-add-sum-3 Inv-loop μ-loop
-add-sum-3 c = search needs
-
-mul-sum-4 : tie.Need-mul-sum-4 Inv-loop μ-loop
-mul-sum-4 c = search needs
-
-slice-set-from-sum : tie.Need-slice-set-from-sum Inv-loop μ-loop
-slice-set-from-sum c = search needs
 
 divided-requires : tie.Need-divided-requires Inv-loop μ-loop
 divided-requires c κs =
@@ -107,12 +92,6 @@ mul-t17 c = record { fits = omega (arith, room (c .before .before .before .befor
 
 slice-set-from-work : tie.Need-slice-set-from-work Inv-loop μ-loop
 slice-set-from-work c = rw length-set (omega (arith, room (c .before .before .before .before)))
-
-add-k : tie.Need-add-k Inv-loop μ-loop
-add-k c = search needs
-
-loop-less : tie.Need-loop-less Inv-loop μ-loop
-loop-less c = search needs
 
 loop-again : tie.Need-loop-again Inv-loop μ-loop
 loop-again c =
@@ -143,4 +122,4 @@ returns : tie.Need-returns Inv-loop μ-loop
 returns c = let e : c .before .loop .k ≡ 9 = omega arith in rw e at (c .before .loop .inv .1)
 
 pub advance-element-spec : {M : Type 1} → statement M
-advance-element-spec = tie.close (tie.spec Inv-loop μ-loop loop-holds add-value mul-value slice-copy-out-value add-sum mul-sum slice-copy-out-sum mul-sum-2 element-copy-out-sum mul-sum-3 add-sum-2 add-sum-3 mul-sum-4 slice-set-from-sum divided-requires add-work add-t13 mul-t17 slice-set-from-work add-k loop-less loop-again same-length returns)
+advance-element-spec = tie.close (tie.spec Inv-loop μ-loop loop-holds add-value mul-value slice-copy-out-value add-sum mul-sum slice-copy-out-sum (λ c. search needs) (λ c. search needs) mul-sum-3 add-sum-2 (λ c. search needs) (λ c. search needs) (λ c. search needs) divided-requires add-work add-t13 mul-t17 slice-set-from-work (λ c. search needs) (λ c. search needs) loop-again same-length returns)

@@ -41,12 +41,6 @@ add-end c = record { fits = omega (arith, small c, c .before .loop .inv .1) }
 mul-start-element : tie.Need-mul-start-element Inv-loop μ-loop
 mul-start-element c = record { fits = omega (arith, small (c .before), c .before .before .loop .inv .1) }
 
-sub-start-element : tie.Need-sub-start-element Inv-loop μ-loop
-sub-start-element c = search needs
-
-part-start-element-start : tie.Need-part-start-element-start Inv-loop μ-loop
-part-start-element-start c = search needs
-
 part-start-element-end : tie.Need-part-start-element-end Inv-loop μ-loop
 part-start-element-end c = omega (arith, c .before .before .loop .inv .1, c .before .before .before .before .before .pre .1 .0)
 
@@ -63,12 +57,6 @@ add-to c = record { fits = omega (arith, small (c .before .before .before .befor
 
 add-sums : tie.Need-add-sums Inv-loop μ-loop
 add-sums c = record { fits = omega (arith, small (c .before .before .before .before), c .before .before .before .before .before .loop .inv .3) }
-
-add-e : tie.Need-add-e Inv-loop μ-loop
-add-e c = search needs
-
-loop-less : tie.Need-loop-less Inv-loop μ-loop
-loop-less c = search needs
 
 loop-again : tie.Need-loop-again Inv-loop μ-loop
 loop-again c =
@@ -93,4 +81,4 @@ returns c =
     written-moved _ _ _ refl refl (omega arith) (c .before .loop .inv .4)
 
 pub start-spec : {M : Type 1} → statement M
-start-spec = tie.close (tie.spec Inv-loop μ-loop mul-n mul-sums mul-sums-2 loop-holds add-end mul-start-element sub-start-element part-start-element-start part-start-element-end start-element-requires add-to add-sums add-e loop-less loop-again same-length returns)
+start-spec = tie.close (tie.spec Inv-loop μ-loop mul-n mul-sums mul-sums-2 loop-holds add-end mul-start-element (λ c. search needs) (λ c. search needs) part-start-element-end start-element-requires add-to add-sums (λ c. search needs) (λ c. search needs) loop-again same-length returns)

@@ -32,12 +32,6 @@ mul-work c = record { fits = omega (arith, room c) }
 slice-set-of-work : tie.Need-slice-set-of-work Inv-loop μ-loop
 slice-set-of-work c = omega (arith, room c)
 
-mul-work-2 : tie.Need-mul-work-2 Inv-loop μ-loop
-mul-work-2 c = search needs
-
-shared-slice-read-work : tie.Need-shared-slice-read-work Inv-loop μ-loop
-shared-slice-read-work c = search needs
-
 cast-work : tie.Need-cast-work Inv-loop μ-loop
 cast-work c = record { sfits = omega (arith, c .shared-slice-known .given (c .before .before .loop .k)) }
 
@@ -49,12 +43,6 @@ mul-t13 c = record { fits = omega (arith, room (c .before)) }
 
 slice-set-from-work : tie.Need-slice-set-from-work Inv-loop μ-loop
 slice-set-from-work c = rw length-set (omega (arith, room (c .before)))
-
-add-k : tie.Need-add-k Inv-loop μ-loop
-add-k c = search needs
-
-loop-less : tie.Need-loop-less Inv-loop μ-loop
-loop-less c = search needs
 
 loop-again : tie.Need-loop-again Inv-loop μ-loop
 loop-again c =
@@ -70,4 +58,4 @@ returns : tie.Need-returns Inv-loop μ-loop
 returns c = let e : c .before .loop .k ≡ 9 = omega arith in rw e at (c .before .loop .inv .1)
 
 pub start-element-spec : {M : Type 1} → statement M
-start-element-spec = tie.close (tie.spec Inv-loop μ-loop loop-holds add-work mul-work slice-set-of-work mul-work-2 shared-slice-read-work cast-work add-t8 mul-t13 slice-set-from-work add-k loop-less loop-again same-length returns)
+start-element-spec = tie.close (tie.spec Inv-loop μ-loop loop-holds add-work mul-work slice-set-of-work (λ c. search needs) (λ c. search needs) cast-work add-t8 mul-t13 slice-set-from-work (λ c. search needs) (λ c. search needs) loop-again same-length returns)

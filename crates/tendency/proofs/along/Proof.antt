@@ -23,12 +23,6 @@ loop-holds : tie.Need-loop-holds Inv-loop μ-loop
 unfolding sumℤ
 loop-holds c = (omega arith, record { same = refl; bound = record { within = omega arith } })
 
-mul-x : tie.Need-mul-x Inv-loop μ-loop
-mul-x c = search needs
-
-element-copy-out-x : tie.Need-element-copy-out-x Inv-loop μ-loop
-element-copy-out-x c = search needs
-
 -- a line's places are within the element
 reach : (c : tie.After-x Inv-loop μ-loop) → c .before .before .before .args .stride * c .before .before .loop .q ≤ c .before .before .before .args .stride * 2
 reach c = mul-le-mul-left (c .before .before .before .args .stride) (omega arith)
@@ -48,29 +42,11 @@ element-copy-out-x-2 c = omega (arith, reach c)
 mul-x-4 : tie.Need-mul-x-4 Inv-loop μ-loop
 mul-x-4 c = let h = c .before .before .before .before .pre in fits (search sizes depth 20) tt
 
-mul-x-5 : tie.Need-mul-x-5 Inv-loop μ-loop
-mul-x-5 c = search needs
-
-add-x-2 : tie.Need-add-x-2 Inv-loop μ-loop
-add-x-2 c = search needs
-
-mul-x-6 : tie.Need-mul-x-6 Inv-loop μ-loop
-mul-x-6 c = search needs
-
-array-copy-out-x : tie.Need-array-copy-out-x Inv-loop μ-loop
-array-copy-out-x c = search needs
-
 mul-x-7 : tie.Need-mul-x-7 Inv-loop μ-loop
 mul-x-7 c = let h = c .before .before .before .before .before .pre in fits (search sizes depth 20) tt
 
 add-x-3 : tie.Need-add-x-3 Inv-loop μ-loop
 add-x-3 c = let h = c .before .before .before .before .before .pre in let s = c .before .before .before .before .loop .inv .1 in fits (search sizes depth 20) tt
-
-add-q : tie.Need-add-q Inv-loop μ-loop
-add-q c = search needs
-
-loop-less : tie.Need-loop-less Inv-loop μ-loop
-loop-less c = search needs
 
 loop-again : tie.Need-loop-again Inv-loop μ-loop
 loop-again c =
@@ -85,4 +61,4 @@ returns : tie.Need-returns Inv-loop μ-loop
 returns c = let a = c .before .before .args in let e : c .before .loop .q ≡ 3 = omega arith in are-eq (rw e at (c .before .loop .inv .1)) (terms-are (a .c .now) (a .v .now) (a .start) (a .stride) (a .place))
 
 pub along-spec : {M : Type 1} → statement M
-along-spec = tie.close (tie.spec Inv-loop μ-loop loop-holds mul-x element-copy-out-x mul-x-2 add-x mul-x-3 element-copy-out-x-2 mul-x-4 mul-x-5 add-x-2 mul-x-6 array-copy-out-x mul-x-7 add-x-3 add-q loop-less loop-again returns)
+along-spec = tie.close (tie.spec Inv-loop μ-loop loop-holds (λ c. search needs) (λ c. search needs) mul-x-2 add-x mul-x-3 element-copy-out-x-2 mul-x-4 (λ c. search needs) (λ c. search needs) (λ c. search needs) (λ c. search needs) mul-x-7 add-x-3 (λ c. search needs) (λ c. search needs) loop-again returns)

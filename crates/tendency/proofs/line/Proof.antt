@@ -30,17 +30,8 @@ along-requires c κs = let h = c .before .before .pre in (h .1 .0, (h .1 .1 .0, 
 with-ends-requires : tie.Need-with-ends-requires Inv-loop μ-loop
 with-ends-requires c κs = let h = c .before .before .before .pre in let s = c .along .ensures in (within (search sizes depth 20) tt, (within (search sizes depth 20) tt, within (search sizes depth 20) tt))
 
-mul-t12 : tie.Need-mul-t12 Inv-loop μ-loop
-mul-t12 c = search needs
-
 slice-set-from-out : tie.Need-slice-set-from-out Inv-loop μ-loop
 slice-set-from-out c = omega (arith, c .before .before .before .loop .inv .1)
-
-add-place : tie.Need-add-place Inv-loop μ-loop
-add-place c = search needs
-
-loop-less : tie.Need-loop-less Inv-loop μ-loop
-loop-less c = search needs
 
 -- what a turn stores
 stored : (c : tie.After-with-ends Inv-loop μ-loop) → toZ w64 (ofZ w64 (c .with-ends .result)) ≡ lineAt (c .before .before .before .before .args .c .now) (c .before .before .before .before .args .v .now) (c .before .before .before .before .args .start) (c .before .before .before .before .args .stride) (toZ w64 (ofZ w64 (c .before .before .before .before .args .first))) (toZ w64 (ofZ w64 (c .before .before .before .before .args .last))) (c .before .before .before .loop .place)
@@ -68,4 +59,4 @@ returns c =
     ∙ ap₂ (λ x y. table 3 (lineAt (a .c .now) (a .v .now) (a .start) (a .stride) x y)) (toZ-ofZ (b .fits .first)) (toZ-ofZ (b .fits .last))
 
 pub line-spec : {M : Type 1} → statement M
-line-spec = tie.close (tie.spec Inv-loop μ-loop loop-holds along-requires with-ends-requires mul-t12 slice-set-from-out add-place loop-less loop-again same-length returns)
+line-spec = tie.close (tie.spec Inv-loop μ-loop loop-holds along-requires with-ends-requires (λ c. search needs) slice-set-from-out (λ c. search needs) (λ c. search needs) loop-again same-length returns)

@@ -31,9 +31,6 @@ loop-holds : tie.Need-loop-holds Inv-loop μ-loop
 unfolding blocks
 loop-holds c = (omega arith, omega arith, refl)
 
-add-end : tie.Need-add-end Inv-loop μ-loop
-add-end c = search needs
-
 -- the array is as long as it was
 long : (c : tie.In-loop Inv-loop μ-loop) → length (c .before .loop .x) ≡ 9
 long c =
@@ -44,44 +41,14 @@ long c =
 mul-first : tie.Need-mul-first Inv-loop μ-loop
 mul-first c = let h = c .before .before .before .pre in fits (search sizes depth 20) tt
 
-add-first : tie.Need-add-first Inv-loop μ-loop
-add-first c = search needs
-
-mul-first-2 : tie.Need-mul-first-2 Inv-loop μ-loop
-mul-first-2 c = search needs
-
-element-copy-out-first : tie.Need-element-copy-out-first Inv-loop μ-loop
-element-copy-out-first c = search needs
-
 mul-first-3 : tie.Need-mul-first-3 Inv-loop μ-loop
 mul-first-3 c = let h = c .before .before .before .before .pre in fits (search sizes depth 20) tt
 
 mul-last : tie.Need-mul-last Inv-loop μ-loop
 mul-last c = let h = c .before .before .before .before .pre in fits (search sizes depth 20) tt
 
-add-last : tie.Need-add-last Inv-loop μ-loop
-add-last c = search needs
-
-add-last-2 : tie.Need-add-last-2 Inv-loop μ-loop
-add-last-2 c = search needs
-
-mul-last-2 : tie.Need-mul-last-2 Inv-loop μ-loop
-mul-last-2 c = search needs
-
-element-copy-out-last : tie.Need-element-copy-out-last Inv-loop μ-loop
-element-copy-out-last c = search needs
-
 mul-last-3 : tie.Need-mul-last-3 Inv-loop μ-loop
 mul-last-3 c = let h = c .before .before .before .before .before .pre in fits (search sizes depth 20) tt
-
-mul-x : tie.Need-mul-x Inv-loop μ-loop
-mul-x c = search needs
-
-sub-line : tie.Need-sub-line Inv-loop μ-loop
-sub-line c = search needs
-
-part-x-start : tie.Need-part-x-start Inv-loop μ-loop
-part-x-start c = search needs
 
 part-x-end : tie.Need-part-x-end Inv-loop μ-loop
 part-x-end c = omega (arith, c .before .before .before .loop .inv .1, long (c .before .before))
@@ -107,12 +74,6 @@ line-requires c κs =
     let h = b .pre in
     let l = d .before .before .before .before .loop in
     (part-size 3 (l .at) (l .at + 3 - l .at) (l .x) (add-sub-cancel-left (l .at) 3) (omega (arith, l .inv .1, long (d .before .before .before))), (winds d, (h .0, (omega (arith, reach d), (within (search sizes depth 20) tt, within (search sizes depth 20) tt)))))
-
-add-b : tie.Need-add-b Inv-loop μ-loop
-add-b c = search needs
-
-loop-less : tie.Need-loop-less Inv-loop μ-loop
-loop-less c = search needs
 
 -- what a turn stores
 row : (c : tie.After-line Inv-loop μ-loop) → c .line .last .0 ≡ lineRow (c .before .before .before .before .before .before .before .place-winds .result) (c .before .before .before .before .before .before .before .before .args .v .now) (c .before .before .before .before .before .before .before .before .args .cw) (c .before .before .before .before .before .before .before .before .args .ce) (c .before .before .before .before .before .before .before .before .args .u .now) (c .before .before .before .before .before .before .before .before .args .side) (c .before .before .before .before .before .before .before .before .args .step) (c .before .before .before .before .before .before .before .before .args .stride) (c .before .before .before .before .before .before .loop .b)
@@ -142,4 +103,4 @@ returns c =
     ∙ ap₂ (λ x y. table 9 (lineNodes (a .v .now) x y (a .u .now) (a .side) (a .step) (a .stride))) (toZ-ofZ (b .fits .cw)) (toZ-ofZ (b .fits .ce))
 
 pub lines-spec : {M : Type 1} → statement M
-lines-spec = tie.close (tie.spec Inv-loop μ-loop place-winds-requires loop-holds add-end mul-first add-first mul-first-2 element-copy-out-first mul-first-3 mul-last add-last add-last-2 mul-last-2 element-copy-out-last mul-last-3 mul-x sub-line part-x-start part-x-end mul-line line-requires add-b loop-less loop-again returns)
+lines-spec = tie.close (tie.spec Inv-loop μ-loop place-winds-requires loop-holds (λ c. search needs) mul-first (λ c. search needs) (λ c. search needs) (λ c. search needs) mul-first-3 mul-last (λ c. search needs) (λ c. search needs) (λ c. search needs) (λ c. search needs) mul-last-3 (λ c. search needs) (λ c. search needs) (λ c. search needs) part-x-end mul-line line-requires (λ c. search needs) (λ c. search needs) loop-again returns)

@@ -25,26 +25,8 @@ loop-holds : tie.Need-loop-holds Inv-loop μ-loop
 unfolding table
 loop-holds c = (omega arith, refl, refl)
 
-mul-c : tie.Need-mul-c Inv-loop μ-loop
-mul-c c = search needs
-
-array-copy-out-c : tie.Need-array-copy-out-c Inv-loop μ-loop
-array-copy-out-c c = search needs
-
-mul-c-2 : tie.Need-mul-c-2 Inv-loop μ-loop
-mul-c-2 c = search needs
-
-array-copy-out-c-2 : tie.Need-array-copy-out-c-2 Inv-loop μ-loop
-array-copy-out-c-2 c = search needs
-
 mul-c-3 : tie.Need-mul-c-3 Inv-loop μ-loop
 mul-c-3 c = let h = c .before .before .before .before .pre in fits (search sizes depth 20) tt
-
-mul-c-4 : tie.Need-mul-c-4 Inv-loop μ-loop
-mul-c-4 c = search needs
-
-array-copy-out-c-3 : tie.Need-array-copy-out-c-3 Inv-loop μ-loop
-array-copy-out-c-3 c = search needs
 
 mul-c-5 : tie.Need-mul-c-5 Inv-loop μ-loop
 mul-c-5 c = let h = c .before .before .before .before .before .pre in fits (search sizes depth 20) tt
@@ -54,18 +36,6 @@ add-c c = let h = c .before .before .before .before .before .pre in fits (search
 
 mul-c-6 : tie.Need-mul-c-6 Inv-loop μ-loop
 mul-c-6 c = let h = c .before .before .before .before .before .pre in fits (search sizes depth 20) tt
-
-mul-c-7 : tie.Need-mul-c-7 Inv-loop μ-loop
-mul-c-7 c = search needs
-
-array-set-from-c : tie.Need-array-set-from-c Inv-loop μ-loop
-array-set-from-c c = search needs
-
-add-q : tie.Need-add-q Inv-loop μ-loop
-add-q c = search needs
-
-loop-less : tie.Need-loop-less Inv-loop μ-loop
-loop-less c = search needs
 
 loop-again : tie.Need-loop-again Inv-loop μ-loop
 loop-again c =
@@ -83,4 +53,4 @@ returns c =
     (rw e at (c .before .loop .inv .2)) ∙ append-nil _ ∙ ap₂ (λ x y. table 3 (weighedWind x y)) (toZ-ofZ (b .fits .cw)) (toZ-ofZ (b .fits .ce))
 
 pub place-winds-spec : {M : Type 1} → statement M
-place-winds-spec = tie.close (tie.spec Inv-loop μ-loop loop-holds mul-c array-copy-out-c mul-c-2 array-copy-out-c-2 mul-c-3 mul-c-4 array-copy-out-c-3 mul-c-5 add-c mul-c-6 mul-c-7 array-set-from-c add-q loop-less loop-again returns)
+place-winds-spec = tie.close (tie.spec Inv-loop μ-loop loop-holds (λ c. search needs) (λ c. search needs) (λ c. search needs) (λ c. search needs) mul-c-3 (λ c. search needs) (λ c. search needs) mul-c-5 add-c mul-c-6 (λ c. search needs) (λ c. search needs) (λ c. search needs) (λ c. search needs) loop-again returns)

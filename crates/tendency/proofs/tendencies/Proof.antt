@@ -20,20 +20,8 @@ Inv-loop v c u x y t₀ k₀ t k = (k ≤ 9) × (length t ≡ 9) × (t ≡ table
 abbrev μ-loop : tie.MeasureT-loop
 μ-loop v c u x y t₀ k₀ t k = 9 - k
 
-element-copy-out-lines : tie.Need-element-copy-out-lines Inv-loop μ-loop
-element-copy-out-lines c = search needs
-
-element-copy-out-lines-2 : tie.Need-element-copy-out-lines-2 Inv-loop μ-loop
-element-copy-out-lines-2 c = search needs
-
 lines-requires : tie.Need-lines-requires Inv-loop μ-loop
 lines-requires c κs = let h = c .before .before .pre in (h .0, (within (search sizes depth 20) tt, (within (search sizes depth 20) tt, (h .1 .1, (omega arith, omega arith)))))
-
-element-copy-out-lines-3 : tie.Need-element-copy-out-lines-3 Inv-loop μ-loop
-element-copy-out-lines-3 c = search needs
-
-element-copy-out-lines-4 : tie.Need-element-copy-out-lines-4 Inv-loop μ-loop
-element-copy-out-lines-4 c = search needs
 
 lines-requires-2 : tie.Need-lines-requires-2 Inv-loop μ-loop
 lines-requires-2 c κs = let h = c .before .before .before .before .before .pre in (h .0, (within (search sizes depth 20) tt, (within (search sizes depth 20) tt, (h .1 .1, (omega arith, omega arith)))))
@@ -64,38 +52,8 @@ loop-holds : tie.Need-loop-holds Inv-loop μ-loop
 unfolding table
 loop-holds c = (omega arith, refl, refl)
 
-mul-t : tie.Need-mul-t Inv-loop μ-loop
-mul-t c = search needs
-
-array-copy-out-t : tie.Need-array-copy-out-t Inv-loop μ-loop
-array-copy-out-t c = search needs
-
-mul-t-2 : tie.Need-mul-t-2 Inv-loop μ-loop
-mul-t-2 c = search needs
-
-array-copy-out-t-2 : tie.Need-array-copy-out-t-2 Inv-loop μ-loop
-array-copy-out-t-2 c = search needs
-
 mul-t-3 : tie.Need-mul-t-3 Inv-loop μ-loop
 mul-t-3 c = let h = small (c .before .before .before .before) in fits (search sizes depth 20) tt
-
-mul-t-4 : tie.Need-mul-t-4 Inv-loop μ-loop
-mul-t-4 c = search needs
-
-array-copy-out-t-3 : tie.Need-array-copy-out-t-3 Inv-loop μ-loop
-array-copy-out-t-3 c = search needs
-
-mul-t-5 : tie.Need-mul-t-5 Inv-loop μ-loop
-mul-t-5 c = search needs
-
-add-t : tie.Need-add-t Inv-loop μ-loop
-add-t c = search needs
-
-mul-t-6 : tie.Need-mul-t-6 Inv-loop μ-loop
-mul-t-6 c = search needs
-
-array-copy-out-t-4 : tie.Need-array-copy-out-t-4 Inv-loop μ-loop
-array-copy-out-t-4 c = search needs
 
 mul-t-7 : tie.Need-mul-t-7 Inv-loop μ-loop
 mul-t-7 c = let h = small (c .before .before .before .before .before .before) in fits (search sizes depth 20) tt
@@ -103,29 +61,11 @@ mul-t-7 c = let h = small (c .before .before .before .before .before .before) in
 add-t-2 : tie.Need-add-t-2 Inv-loop μ-loop
 add-t-2 c = let h = small (c .before .before .before .before .before .before) in fits (search sizes depth 20) tt
 
-mul-t-8 : tie.Need-mul-t-8 Inv-loop μ-loop
-mul-t-8 c = search needs
-
-array-read-t : tie.Need-array-read-t Inv-loop μ-loop
-array-read-t c = search needs
-
 cast-t : tie.Need-cast-t Inv-loop μ-loop
 cast-t c = record { sfits = omega (arith, shift-lt (c .before .before .before .before .before .loop .k) (omega arith)) }
 
 shr-t : tie.Need-shr-t Inv-loop μ-loop
 shr-t c = shift-lt (c .before .before .before .before .before .loop .k) (omega arith)
-
-mul-t-9 : tie.Need-mul-t-9 Inv-loop μ-loop
-mul-t-9 c = search needs
-
-array-set-from-t : tie.Need-array-set-from-t Inv-loop μ-loop
-array-set-from-t c = search needs
-
-add-k : tie.Need-add-k Inv-loop μ-loop
-add-k c = search needs
-
-loop-less : tie.Need-loop-less Inv-loop μ-loop
-loop-less c = search needs
 
 loop-again : tie.Need-loop-again Inv-loop μ-loop
 loop-again c =
@@ -142,4 +82,4 @@ returns c =
     (rw e at (c .before .loop .inv .2)) ∙ append-nil _ ∙ ap₂ (λ x y. table 9 (combined x y)) (xs g) (ys g) ∙ all-combined (a .v .now) (a .c .now) (a .u .now)
 
 pub tendencies-spec : {M : Type 1} → statement M
-tendencies-spec = tie.close (tie.spec Inv-loop μ-loop element-copy-out-lines element-copy-out-lines-2 lines-requires element-copy-out-lines-3 element-copy-out-lines-4 lines-requires-2 loop-holds mul-t array-copy-out-t mul-t-2 array-copy-out-t-2 mul-t-3 mul-t-4 array-copy-out-t-3 mul-t-5 add-t mul-t-6 array-copy-out-t-4 mul-t-7 add-t-2 mul-t-8 array-read-t cast-t shr-t mul-t-9 array-set-from-t add-k loop-less loop-again returns)
+tendencies-spec = tie.close (tie.spec Inv-loop μ-loop (λ c. search needs) (λ c. search needs) lines-requires (λ c. search needs) (λ c. search needs) lines-requires-2 loop-holds (λ c. search needs) (λ c. search needs) (λ c. search needs) (λ c. search needs) mul-t-3 (λ c. search needs) (λ c. search needs) (λ c. search needs) (λ c. search needs) (λ c. search needs) (λ c. search needs) mul-t-7 add-t-2 (λ c. search needs) (λ c. search needs) cast-t shr-t (λ c. search needs) (λ c. search needs) (λ c. search needs) (λ c. search needs) loop-again returns)

@@ -59,9 +59,6 @@ returns c =
     let h = rw (toZ-ofZ f) at (c .if1 .taken) in
     rw (toZ-ofZ f, toZ-ofZ (wide _ f), toZ-ofZ (negated _ f h)) (same-size (c .before .args .z) h)
 
-returns-2 : tie.Need-returns-2
-returns-2 c = search needs
-
 pub absolute-spec : {M : Type 1} → statement M
 absolute-spec =
-    tie.close (tie.spec cast-result sub-result cast-result-2 cast-result-3 returns returns-2)
+    tie.close (tie.spec cast-result sub-result cast-result-2 cast-result-3 returns (λ c. search needs))

@@ -20,22 +20,10 @@ loop-holds c =
     let a = c .args in
     (refl, omega arith, ends-at (blocks-none 1 (byteOf (a .word .now)) (a .at) (a .out .now) (omega arith)) (a .at + 0) (omega arith))
 
-shared-slice-read-out : tie.Need-shared-slice-read-out Inv-loop μ-loop
-shared-slice-read-out c = search needs
-
-add-out : tie.Need-add-out Inv-loop μ-loop
-add-out c = search needs
-
 slice-write-out : tie.Need-slice-write-out Inv-loop μ-loop
 slice-write-out c =
     let l = c .before .before .loop in
     omega (arith, added-length (l .inv .2))
-
-add-k : tie.Need-add-k Inv-loop μ-loop
-add-k c = search needs
-
-loop-less : tie.Need-loop-less Inv-loop μ-loop
-loop-less c = search needs
 
 loop-again : tie.Need-loop-again Inv-loop μ-loop
 loop-again c =
@@ -43,9 +31,6 @@ loop-again c =
     let a = c .before .before .before .args in
     let room : a .at + l .k < length (l .out) = omega (arith, added-length (l .inv .2)) in
     (refl, omega arith, ends-at (block-more 1 (byteOf (a .word .now)) (l .inv .2) (byte-added (a .at + l .k) _ (l .out) room)) (a .at + (l .k + 1)) (omega arith))
-
-add-result : tie.Need-add-result Inv-loop μ-loop
-add-result c = search needs
 
 same-length : tie.Need-same-length Inv-loop μ-loop
 same-length c =
@@ -65,12 +50,12 @@ put-spec =
     Inv-loop
     μ-loop
     loop-holds
-    shared-slice-read-out
-    add-out
+    (λ c. search needs)
+    (λ c. search needs)
     slice-write-out
-    add-k
-    loop-less
+    (λ c. search needs)
+    (λ c. search needs)
     loop-again
-    add-result
+    (λ c. search needs)
     same-length
     returns)

@@ -10,21 +10,6 @@ use Rattle.text.proofs.DecimalLaws.{signed-below, signed-above}
 use Rattle.text.proofs.signed.Statement.{statement}
 use Rattle.text.proofs.signed.Tie as tie
 
-absolute-requires : tie.Need-absolute-requires
-absolute-requires c κs = search needs
-
-slice-aggregate-put : tie.Need-slice-aggregate-put
-slice-aggregate-put c = search needs
-
-put-requires : tie.Need-put-requires
-put-requires c κs = search needs
-
-number-requires : tie.Need-number-requires
-number-requires c κs = search needs
-
-same-length : tie.Need-same-length
-same-length c = search needs
-
 returns : tie.Need-returns
 returns c =
     let t = c .before .before .before .before .before .before .before .before .before in
@@ -32,12 +17,6 @@ returns c =
     let f = t .before .before .before .fits .z in
     let h = rw (toZ-ofZ f) at (t .if1 .taken) in
     same-bytes (ap (λ n. (45 ∷ []) ++ decimalBy 19 n) (t .before .absolute .ensures ∙ ap natAbs (toZ-ofZ f)) ∙ signed-below z h) (then (c .before .before .before .before .before .before .put .ensures) (c .before .before .number .ensures))
-
-number-requires-2 : tie.Need-number-requires-2
-number-requires-2 c κs = search needs
-
-same-length-2 : tie.Need-same-length-2
-same-length-2 c = search needs
 
 returns-2 : tie.Need-returns-2
 returns-2 c =
@@ -51,12 +30,12 @@ pub signed-spec : {M : Type 1} → statement M
 signed-spec =
     tie.close
     (tie.spec
-    absolute-requires
-    slice-aggregate-put
-    put-requires
-    number-requires
-    same-length
+    (λ c κs. search needs)
+    (λ c. search needs)
+    (λ c κs. search needs)
+    (λ c κs. search needs)
+    (λ c. search needs)
     returns
-    number-requires-2
-    same-length-2
+    (λ c κs. search needs)
+    (λ c. search needs)
     returns-2)

@@ -16,9 +16,6 @@ use Rattle.transport.proofs.CheckLaws.{enough, step-2, step-4, step-5, 
 use Rattle.transport.proofs.check.Statement.{statement}
 use Rattle.transport.proofs.check.Tie as tie
 
-admitted-requires : tie.Need-admitted-requires
-admitted-requires c κs = search needs
-
 returns : tie.Need-returns
 unfolding plain
 returns c =
@@ -62,15 +59,6 @@ returns-3 c =
 sound-is : (c : tie.Else3) → windSound (c .before .before .before .before .before .before .before .args .shape) (c .before .before .before .before .before .before .before .args .wind .now) ≡ true
 sound-is c = sym (c .before .winds-sound .ensures) ∙ not-false _ (c .if3 .left)
 
-total-requires : tie.Need-total-requires
-total-requires c κs = search needs
-
-enum-known-found : tie.Need-enum-known-found
-enum-known-found c = search needs
-
-enum-told : tie.Need-enum-told
-enum-told c = search needs
-
 returns-4 : tie.Need-returns-4
 unfolding plain
 returns-4 c =
@@ -86,4 +74,4 @@ returns-5 c =
     sym (ap plain (step-accepted (a .shape) (a .tracer) (a .field .now) (a .wind .now) (a .report) (a .work) _ (shape-is (e .before .before .before .before)) (enough-is (e .before .before)) (sound-is e) (sym (c .before .before .total .ensures) ∙ ap reading (c .enum-told .given .1))))
 
 pub check-spec : {M : Type 1} → statement M
-check-spec = tie.close (tie.spec admitted-requires returns lent-enough-requires returns-2 winds-sound-requires returns-3 total-requires enum-known-found enum-told returns-4 returns-5)
+check-spec = tie.close (tie.spec (λ c κs. search needs) returns lent-enough-requires returns-2 winds-sound-requires returns-3 (λ c κs. search needs) (λ c. search needs) (λ c. search needs) returns-4 returns-5)

@@ -44,9 +44,6 @@ shared-slice-copy-out-t10 c = omega (arith, inside c, c .before .before .before 
 cast-t11 : tie.Need-cast-t11
 cast-t11 c = let h = c .t10 .given in fits (search sizes-wide depth 20) tt
 
-mul-t12 : tie.Need-mul-t12
-mul-t12 c = search needs
-
 shared-slice-copy-out-t14 : tie.Need-shared-slice-copy-out-t14
 shared-slice-copy-out-t14 c = let b = c .before .before .before .before in omega (arith, b .pre .0 .inside, b .pre .1 .long)
 
@@ -61,9 +58,6 @@ shared-slice-copy-out-t18 c = let b = c .before .before .before .before .before 
 
 cast-t19 : tie.Need-cast-t19
 cast-t19 c = let h = c .t18 .given in fits (search sizes-wide depth 20) tt
-
-mul-t20 : tie.Need-mul-t20
-mul-t20 c = search needs
 
 shared-slice-copy-out-t22 : tie.Need-shared-slice-copy-out-t22
 shared-slice-copy-out-t22 c = let b = c .before .before .before .before .before .before in omega (arith, b .pre .0 .inside, b .pre .1 .long)
@@ -80,4 +74,4 @@ returns c =
     λ i. (widened _ (c .before .before .before .t10 .given) ∙ ap w (s .before .west .ensures)) i ∷ widened (w (a .e)) (c .before .before .t14 .given) i ∷ (widened _ (c .before .t18 .given) ∙ ap (λ x. w (n + x)) (s .south .ensures)) i ∷ widened (w (n + a .e)) (c .t22 .given) i ∷ []
 
 pub side-winds-spec : {M : Type 1} → statement M
-side-winds-spec = tie.close (tie.spec mul-n west-requires south-requires add-south add-north mul-t8 shared-slice-copy-out-t10 cast-t11 mul-t12 shared-slice-copy-out-t14 cast-t15 mul-t16 shared-slice-copy-out-t18 cast-t19 mul-t20 shared-slice-copy-out-t22 cast-t23 returns)
+side-winds-spec = tie.close (tie.spec mul-n west-requires south-requires add-south add-north mul-t8 shared-slice-copy-out-t10 cast-t11 (λ c. search needs) shared-slice-copy-out-t14 cast-t15 mul-t16 shared-slice-copy-out-t18 cast-t19 (λ c. search needs) shared-slice-copy-out-t22 cast-t23 returns)

@@ -42,30 +42,6 @@ behind-is c = λ i. c .before .before .before .west .ensures i ∷ c .before .be
 ahead-is : (c : tie.After-north Inv-loop μ-loop) → (c .before .before .before .before .args .e ∷ c .before .before .east .result ∷ c .before .before .before .before .args .e ∷ c .north .result ∷ []) ≡ aheads (c .before .before .before .before .args .shape) (c .before .before .before .before .args .e)
 ahead-is c = λ i. c .before .before .before .before .args .e ∷ c .before .before .east .ensures i ∷ c .before .before .before .before .args .e ∷ c .north .ensures i ∷ []
 
-mul-upwind-start : tie.Need-mul-upwind-start Inv-loop μ-loop
-mul-upwind-start c = search needs
-
-element-copy-out-upwind-start : tie.Need-element-copy-out-upwind-start Inv-loop μ-loop
-element-copy-out-upwind-start c = search needs
-
-mul-upwind-start-2 : tie.Need-mul-upwind-start-2 Inv-loop μ-loop
-mul-upwind-start-2 c = search needs
-
-array-read-upwind-start : tie.Need-array-read-upwind-start Inv-loop μ-loop
-array-read-upwind-start c = search needs
-
-mul-upwind-start-3 : tie.Need-mul-upwind-start-3 Inv-loop μ-loop
-mul-upwind-start-3 c = search needs
-
-array-read-upwind-start-2 : tie.Need-array-read-upwind-start-2 Inv-loop μ-loop
-array-read-upwind-start-2 c = search needs
-
-mul-upwind-start-4 : tie.Need-mul-upwind-start-4 Inv-loop μ-loop
-mul-upwind-start-4 c = search needs
-
-array-read-upwind-start-3 : tie.Need-array-read-upwind-start-3 Inv-loop μ-loop
-array-read-upwind-start-3 c = search needs
-
 upwind-start-requires : tie.Need-upwind-start-requires Inv-loop μ-loop
 upwind-start-requires c κs =
     let n = c .before .before .before in
@@ -78,18 +54,6 @@ upwind-start-requires c κs =
         last-lt s,
       ),
     )
-
-mul-s : tie.Need-mul-s Inv-loop μ-loop
-mul-s c = search needs
-
-array-write-s : tie.Need-array-write-s Inv-loop μ-loop
-array-write-s c = search needs
-
-add-side : tie.Need-add-side Inv-loop μ-loop
-add-side c = search needs
-
-loop-less : tie.Need-loop-less Inv-loop μ-loop
-loop-less c = search needs
 
 loop-again : tie.Need-loop-again Inv-loop μ-loop
 loop-again c =
@@ -109,4 +73,4 @@ returns c =
     (rw e at (c .before .loop .inv .2)) ∙ append-nil _ ∙ (λ i. table 4 (λ s. upwindStart (at (a .c .now) s) (getD (behind-is n i) s 0) (getD (ahead-is n i) s 0) (getD lasts s 0)))
 
 pub starts-spec : {M : Type 1} → statement M
-starts-spec = tie.close (tie.spec Inv-loop μ-loop west-requires east-requires south-requires north-requires loop-holds mul-upwind-start element-copy-out-upwind-start mul-upwind-start-2 array-read-upwind-start mul-upwind-start-3 array-read-upwind-start-2 mul-upwind-start-4 array-read-upwind-start-3 upwind-start-requires mul-s array-write-s add-side loop-less loop-again returns)
+starts-spec = tie.close (tie.spec Inv-loop μ-loop west-requires east-requires south-requires north-requires loop-holds (λ c. search needs) (λ c. search needs) (λ c. search needs) (λ c. search needs) (λ c. search needs) (λ c. search needs) (λ c. search needs) (λ c. search needs) upwind-start-requires (λ c. search needs) (λ c. search needs) (λ c. search needs) (λ c. search needs) loop-again returns)

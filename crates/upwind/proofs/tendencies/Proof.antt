@@ -28,9 +28,6 @@ upwind-values-requires c κs =
     let a = b .args in
     subst (λ (s : List ℕ). Reached s (a .phi .now)) (sym (begun (c .before))) (reached (a .shape) (windAt (a .wind .now)) (a .phi .now) (a .e) (b .pre .0) (b .pre .1 .0))
 
-mul-values : tie.Need-mul-values
-mul-values c = search needs
-
 values-requires : tie.Need-values-requires
 values-requires c κs = let b = c .before .before .before .before .before in omega (arith, b .pre .0 .inside, b .pre .1 .0)
 
@@ -56,4 +53,4 @@ returns c =
     ∙ gathered (a .shape) (windAt (a .wind .now)) (a .phi .now) (a .e) (b .pre .0)
 
 pub tendencies-spec : {M : Type 1} → statement M
-tendencies-spec = tie.close (tie.spec side-winds-requires starts-requires upwind-values-requires mul-values values-requires tendencies-requires returns)
+tendencies-spec = tie.close (tie.spec side-winds-requires starts-requires upwind-values-requires (λ c. search needs) values-requires tendencies-requires returns)

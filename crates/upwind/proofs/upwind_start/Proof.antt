@@ -15,24 +15,6 @@ use Rattle.upwind.proofs.Laws.{place-small, chosen-small, machinePlace,
 use Rattle.upwind.proofs.upwind_start.Statement.{statement}
 use Rattle.upwind.proofs.upwind_start.Tie as tie
 
-mul-in-behind : tie.Need-mul-in-behind
-mul-in-behind c = search needs
-
-add-in-behind : tie.Need-add-in-behind
-add-in-behind c = search needs
-
-cast-in-behind : tie.Need-cast-in-behind
-cast-in-behind c = search needs
-
-mul-in-ahead : tie.Need-mul-in-ahead
-mul-in-ahead c = search needs
-
-cast-in-ahead : tie.Need-cast-in-ahead
-cast-in-ahead c = search needs
-
-sign-requires : tie.Need-sign-requires
-sign-requires c κs = search needs
-
 -- the sizes of the two places
 places-small : (c : tie.Start) → (Within 40960 (toZ w64 (c .args .behind * 9 + c .args .last))) × (Within 40960 (toZ w64 (c .args .ahead * 9)))
 places-small c = (place-small (c .args .behind * 9 + c .args .last) (omega arith), place-small (c .args .ahead * 9) (omega arith))
@@ -58,4 +40,4 @@ returns : tie.Need-returns
 returns c = let a = c .before .args in ap natAbs (made c) ∙ start-is (a .c) (a .behind) (a .ahead) (a .last)
 
 pub upwind-start-spec : {M : Type 1} → statement M
-upwind-start-spec = tie.close (tie.spec mul-in-behind add-in-behind cast-in-behind mul-in-ahead cast-in-ahead sign-requires sub-result mul-result add-result cast-result returns)
+upwind-start-spec = tie.close (tie.spec (λ c. search needs) (λ c. search needs) (λ c. search needs) (λ c. search needs) (λ c. search needs) (λ c κs. search needs) sub-result mul-result add-result cast-result returns)

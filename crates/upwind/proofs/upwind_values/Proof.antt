@@ -22,18 +22,6 @@ loop-holds : tie.Need-loop-holds Inv-loop μ-loop
 unfolding table
 loop-holds c = (omega arith, refl, refl)
 
-mul-place : tie.Need-mul-place Inv-loop μ-loop
-mul-place c = search needs
-
-element-copy-out-place : tie.Need-element-copy-out-place Inv-loop μ-loop
-element-copy-out-place c = search needs
-
-mul-place-2 : tie.Need-mul-place-2 Inv-loop μ-loop
-mul-place-2 c = search needs
-
-sub-place : tie.Need-sub-place Inv-loop μ-loop
-sub-place c = search needs
-
 -- what a turn reads is within the stage
 place-is : (c : tie.In-loop Inv-loop μ-loop) → getD (c .before .before .args .starts .now) (c .before .loop .m / 3) 0 + (3 - 2 * (c .before .loop .m / 6)) * (c .before .loop .m % 3) ≡ upwindPlace (c .before .before .args .starts .now) (c .before .loop .m)
 place-is c = let m = c .before .loop .m in ap (λ n. getD (c .before .before .args .starts .now) (m / 3) 0 + n * (m % 3)) (stride-is m (omega arith))
@@ -53,18 +41,6 @@ mul-u c = record { fits = omega (arith, reach (c .before)) }
 shared-slice-copy-out-u : tie.Need-shared-slice-copy-out-u Inv-loop μ-loop
 shared-slice-copy-out-u c = reach (c .before)
 
-mul-u-2 : tie.Need-mul-u-2 Inv-loop μ-loop
-mul-u-2 c = search needs
-
-array-set-from-u : tie.Need-array-set-from-u Inv-loop μ-loop
-array-set-from-u c = search needs
-
-add-m : tie.Need-add-m Inv-loop μ-loop
-add-m c = search needs
-
-loop-less : tie.Need-loop-less Inv-loop μ-loop
-loop-less c = search needs
-
 loop-again : tie.Need-loop-again Inv-loop μ-loop
 loop-again c =
     let l = c .before .before .before .loop in
@@ -75,4 +51,4 @@ returns : tie.Need-returns Inv-loop μ-loop
 returns c = let e : c .before .loop .m ≡ 12 = omega arith in (rw e at (c .before .loop .inv .2)) ∙ append-nil _
 
 pub upwind-values-spec : {M : Type 1} → statement M
-upwind-values-spec = tie.close (tie.spec Inv-loop μ-loop loop-holds mul-place element-copy-out-place mul-place-2 sub-place mul-place-3 add-place mul-u shared-slice-copy-out-u mul-u-2 array-set-from-u add-m loop-less loop-again returns)
+upwind-values-spec = tie.close (tie.spec Inv-loop μ-loop loop-holds (λ c. search needs) (λ c. search needs) (λ c. search needs) (λ c. search needs) mul-place-3 add-place mul-u shared-slice-copy-out-u (λ c. search needs) (λ c. search needs) (λ c. search needs) (λ c. search needs) loop-again returns)

@@ -20,27 +20,6 @@ loop-holds : tie.Need-loop-holds Inv-loop μ-loop
 unfolding table
 loop-holds c = (omega arith, refl, refl)
 
-add-v : tie.Need-add-v Inv-loop μ-loop
-add-v c = search needs
-
-mul-v : tie.Need-mul-v Inv-loop μ-loop
-mul-v c = search needs
-
-shared-slice-copy-out-v : tie.Need-shared-slice-copy-out-v Inv-loop μ-loop
-shared-slice-copy-out-v c = search needs
-
-mul-v-2 : tie.Need-mul-v-2 Inv-loop μ-loop
-mul-v-2 c = search needs
-
-array-set-from-v : tie.Need-array-set-from-v Inv-loop μ-loop
-array-set-from-v c = search needs
-
-add-k : tie.Need-add-k Inv-loop μ-loop
-add-k c = search needs
-
-loop-less : tie.Need-loop-less Inv-loop μ-loop
-loop-less c = search needs
-
 loop-again : tie.Need-loop-again Inv-loop μ-loop
 loop-again c =
     let l = c .before .before .loop in
@@ -51,4 +30,4 @@ returns : tie.Need-returns Inv-loop μ-loop
 returns c = let e : c .before .loop .k ≡ 9 = omega arith in (rw e at (c .before .loop .inv .2)) ∙ append-nil _
 
 pub values-spec : {M : Type 1} → statement M
-values-spec = tie.close (tie.spec Inv-loop μ-loop loop-holds add-v mul-v shared-slice-copy-out-v mul-v-2 array-set-from-v add-k loop-less loop-again returns)
+values-spec = tie.close (tie.spec Inv-loop μ-loop loop-holds (λ c. search needs) (λ c. search needs) (λ c. search needs) (λ c. search needs) (λ c. search needs) (λ c. search needs) (λ c. search needs) loop-again returns)

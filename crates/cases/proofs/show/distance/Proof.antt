@@ -48,12 +48,6 @@ cast-result-3 c =
     let f = c .before .fits .c in
     rw (toZ-ofZ f) (above _ f (rw (toZ-ofZ f) at (c .if1 .left)))
 
-returns : tie.Need-returns
-returns c = search needs
-
-returns-2 : tie.Need-returns-2
-returns-2 c = search needs
-
 pub distance-spec : {M : Type 1} → statement M
 distance-spec =
-    tie.close (tie.spec cast-result sub-result cast-result-2 cast-result-3 returns returns-2)
+    tie.close (tie.spec cast-result sub-result cast-result-2 cast-result-3 (λ c. search needs) (λ c. search needs))

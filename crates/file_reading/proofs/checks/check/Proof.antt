@@ -16,9 +16,6 @@ use Rattle.file_reading.proofs.CheckLaws.{check-3, check-4-field, check
 use Rattle.file_reading.proofs.checks.check.Statement.{statement}
 use Rattle.file_reading.proofs.checks.check.Tie as tie
 
-offsets-right-requires : tie.Need-offsets-right-requires
-offsets-right-requires c κs = search needs
-
 returns : tie.Need-returns
 returns c =
     let a = c .before .before .before .args in
@@ -31,9 +28,6 @@ right c = sym (c .before .offsets-right .ensures) ∙ not-false _ (c .if1 .left)
 long : (c : tie.Else1) → length (c .before .before .before .args .file .now) ≡ fileLength quadratic (c .before .before .before .args .shape)
 long c = let a = c .before .before .before .args in right-length (a .shape) (a .file .now) (a .field) (a .wind) (rw (right c) tt)
 
-field-length-requires : tie.Need-field-length-requires
-field-length-requires c κs = search needs
-
 returns-2 : tie.Need-returns-2
 returns-2 c =
     let e = c .before .before in
@@ -42,9 +36,6 @@ returns-2 c =
 
 fields : (c : tie.Else2) → fieldLength quadratic (c .before .before .before .before .before .args .shape) ≤ c .before .before .before .before .before .args .field
 fields c = omega (arith, c .before .field-length .ensures, c .if2 .left)
-
-faces-requires : tie.Need-faces-requires
-faces-requires c κs = search needs
 
 returns-3 : tie.Need-returns-3
 returns-3 c =
@@ -55,12 +46,6 @@ returns-3 c =
 
 winds : (c : tie.Else3) → faces (c .before .before .before .before .before .before .before .args .shape) ≤ c .before .before .before .before .before .before .before .args .wind
 winds c = omega (arith, c .before .faces .ensures, c .if3 .left)
-
-section-start-requires : tie.Need-section-start-requires
-section-start-requires c κs = search needs
-
-section-start-requires-2 : tie.Need-section-start-requires-2
-section-start-requires-2 c κs = search needs
 
 -- the wind section
 span : (c : tie.After-section-start2) → (c .before .section-start .result ≡ 0) × (c .section-start2 .result ≡ 2 * faces (c .before .before .before .before .before .before .before .before .before .args .shape)) × (c .section-start2 .result ≤ length (c .before .before .before .before .before .before .before .before .before .args .file .now))
@@ -133,14 +118,14 @@ pub check-spec : {M : Type 1} → statement M
 check-spec =
     tie.close
     (tie.spec
-    offsets-right-requires
+    (λ c κs. search needs)
     returns
-    field-length-requires
+    (λ c κs. search needs)
     returns-2
-    faces-requires
+    (λ c κs. search needs)
     returns-3
-    section-start-requires
-    section-start-requires-2
+    (λ c κs. search needs)
+    (λ c κs. search needs)
     sub-winds-sound
     part-winds-sound-start
     part-winds-sound-end

@@ -20,9 +20,6 @@ Inv-loop file shape n table count i₀ i = (i ≤ count) × (all i (offset shape
 abbrev μ-loop : tie.MeasureT-loop
 μ-loop file shape n table count i₀ i = count - i
 
-file-length-requires : tie.Need-file-length-requires Inv-loop μ-loop
-file-length-requires c κs = search needs
-
 returns : tie.Need-returns Inv-loop μ-loop
 returns c =
     let a = c .before .before .before .args in
@@ -32,17 +29,11 @@ returns c =
 long : (c : tie.Else1 Inv-loop μ-loop) → length (c .before .before .before .args .file .now) ≡ fileLength quadratic (c .before .before .before .args .shape)
 long c = omega (arith, c .if1 .left, c .before .file-length .ensures)
 
-table-start-requires : tie.Need-table-start-requires Inv-loop μ-loop
-table-start-requires c κs = search needs
-
 sub-number32 : tie.Need-sub-number32 Inv-loop μ-loop
 sub-number32 c = let e = c .before in omega (arith, long e, length-is quadratic (e .before .before .before .args .shape))
 
 number32-requires : tie.Need-number32-requires Inv-loop μ-loop
 number32-requires c κs = let e = c .before in omega (arith, long e, length-is quadratic (e .before .before .before .args .shape))
-
-cast-if2 : tie.Need-cast-if2 Inv-loop μ-loop
-cast-if2 c = search needs
 
 returns-2 : tie.Need-returns-2 Inv-loop μ-loop
 returns-2 c =
@@ -52,9 +43,6 @@ returns-2 c =
 
 table-right : (c : tie.Else2 Inv-loop μ-loop) → number32 (c .before .before .before .before .before .before .args .file .now) (length (c .before .before .before .before .before .before .args .file .now) - 8) ≡ tableStart quadratic (c .before .before .before .before .before .before .args .shape)
 table-right c = sym (c .before .number32 .ensures) ∙ c .if2 .left ∙ c .before .before .table-start .ensures
-
-add-count : tie.Need-add-count Inv-loop μ-loop
-add-count c = search needs
 
 loop-holds : tie.Need-loop-holds Inv-loop μ-loop
 unfolding all
@@ -68,20 +56,11 @@ room c =
     let s = e .before .before .before in
     (omega (arith, long e, length-is quadratic (s .args .shape), t .table-start .ensures), omega (arith, long e, length-is quadratic (s .args .shape), length-le (s .args .shape) (s .pre), t .table-start .ensures))
 
-mul-number32 : tie.Need-mul-number32 Inv-loop μ-loop
-mul-number32 c = search needs
-
 add-number32 : tie.Need-add-number32 Inv-loop μ-loop
 add-number32 c = record { fits = omega (arith, room c) }
 
 number32-requires-2 : tie.Need-number32-requires-2 Inv-loop μ-loop
 number32-requires-2 c κs = omega (arith, room c)
-
-cast-if3 : tie.Need-cast-if3 Inv-loop μ-loop
-cast-if3 c = search needs
-
-section-start-requires : tie.Need-section-start-requires Inv-loop μ-loop
-section-start-requires c κs = search needs
 
 -- what a turn compares is what the table holds
 read : (c : tie.After-number322 Inv-loop μ-loop) → c .number322 .result ≡ number32 (c .before .before .before .before .before .before .before .before .before .before .args .file .now) (tableStart quadratic (c .before .before .before .before .before .before .before .before .before .before .args .shape) + 4 * c .before .before .loop .i)
@@ -98,12 +77,6 @@ returns-3 c =
     let a = e .before .before .before .args in
     by-offsets (a .shape) (a .file .now) (long e) (table-right d) false
     (all-fails (a .shape .tracers + 1) (offset (a .shape) (a .file .now)) (l .loop .i) (omega arith) (ne-eqb _ _ (λ q. c .if3 .taken (read (b .before) ∙ q ∙ sym (b .section-start .ensures)))))
-
-add-i : tie.Need-add-i Inv-loop μ-loop
-add-i c = search needs
-
-loop-less : tie.Need-loop-less Inv-loop μ-loop
-loop-less c = search needs
 
 loop-again : tie.Need-loop-again Inv-loop μ-loop
 loop-again c =
@@ -127,22 +100,22 @@ offsets-right-spec =
     (tie.spec
     Inv-loop
     μ-loop
-    file-length-requires
+    (λ c κs. search needs)
     returns
-    table-start-requires
+    (λ c κs. search needs)
     sub-number32
     number32-requires
-    cast-if2
+    (λ c. search needs)
     returns-2
-    add-count
+    (λ c. search needs)
     loop-holds
-    mul-number32
+    (λ c. search needs)
     add-number32
     number32-requires-2
-    cast-if3
-    section-start-requires
+    (λ c. search needs)
+    (λ c κs. search needs)
     returns-3
-    add-i
-    loop-less
+    (λ c. search needs)
+    (λ c. search needs)
     loop-again
     returns-4)

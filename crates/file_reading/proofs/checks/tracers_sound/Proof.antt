@@ -25,18 +25,6 @@ loop-holds : tie.Need-loop-holds Inv-loop μ-loop
 unfolding all
 loop-holds c = (omega arith, refl)
 
-add-section-start : tie.Need-add-section-start Inv-loop μ-loop
-add-section-start c = search needs
-
-section-start-requires : tie.Need-section-start-requires Inv-loop μ-loop
-section-start-requires c κs = search needs
-
-add-section-start-2 : tie.Need-add-section-start-2 Inv-loop μ-loop
-add-section-start-2 c = search needs
-
-section-start-requires-2 : tie.Need-section-start-requires-2 Inv-loop μ-loop
-section-start-requires-2 c κs = search needs
-
 -- the section of a turn
 span : (c : tie.After-section-start2 Inv-loop μ-loop) → (c .section-start2 .result ≡ c .before .section-start .result + 4 * tracerLength quadratic (c .before .before .before .before .before .args .shape)) × (c .section-start2 .result ≤ length (c .before .before .before .before .before .args .file .now))
 span c =
@@ -75,12 +63,6 @@ returns c =
     let a = l .before .before .args in
     sym (all-fails (a .shape .tracers) (λ t. sound quadratic (a .shape) (part quadratic (a .shape) t (fileField quadratic (a .shape) (a .file .now)))) (l .loop .s) (omega arith) (sym (tested t) ∙ not-true _ (c .if1 .taken)))
 
-add-s : tie.Need-add-s Inv-loop μ-loop
-add-s c = search needs
-
-loop-less : tie.Need-loop-less Inv-loop μ-loop
-loop-less c = search needs
-
 loop-again : tie.Need-loop-again Inv-loop μ-loop
 loop-again c =
     let t = c .before in
@@ -99,16 +81,16 @@ tracers-sound-spec =
     Inv-loop
     μ-loop
     loop-holds
-    add-section-start
-    section-start-requires
-    add-section-start-2
-    section-start-requires-2
+    (λ c. search needs)
+    (λ c κs. search needs)
+    (λ c. search needs)
+    (λ c κs. search needs)
     sub-tracer-sound
     part-tracer-sound-start
     part-tracer-sound-end
     tracer-sound-requires
     returns
-    add-s
-    loop-less
+    (λ c. search needs)
+    (λ c. search needs)
     loop-again
     returns-2)

@@ -12,9 +12,6 @@ use Rattle.file_writing.proofs.WriteChecks.{enough, rooms, write-2, wri
 use Rattle.file_writing.proofs.checks.check.Statement.{statement}
 use Rattle.file_writing.proofs.checks.check.Tie as tie
 
-admitted-requires : tie.Need-admitted-requires
-admitted-requires c κs = search needs
-
 returns : tie.Need-returns
 returns c =
     let a = c .before .before .before .before .args in
@@ -72,4 +69,4 @@ returns-5 c =
     ∙ sym (write-passed (a .shape) (a .field .now) (a .wind .now) (a .file .now) (shape-is (e .before .before .before .before)) (enough-is (e .before .before)) (winds-are e) (sym (t .before .tracers-sound .ensures) ∙ not-false _ (t .if4 .left)))
 
 pub check-spec : {M : Type 1} → statement M
-check-spec = tie.close (tie.spec admitted-requires returns lent-enough-requires returns-2 winds-sound-requires returns-3 tracers-sound-requires returns-4 file-length-requires returns-5)
+check-spec = tie.close (tie.spec (λ c κs. search needs) returns lent-enough-requires returns-2 winds-sound-requires returns-3 tracers-sound-requires returns-4 file-length-requires returns-5)

@@ -40,12 +40,6 @@ add-end c = record { fits = omega (arith, within c) }
 mul-tracer-total : tie.Need-mul-tracer-total Inv-loop μ-loop
 mul-tracer-total c = omega (arith, within c)
 
-sub-tracer-total : tie.Need-sub-tracer-total Inv-loop μ-loop
-sub-tracer-total c = search needs
-
-part-tracer-total-start : tie.Need-part-tracer-total-start Inv-loop μ-loop
-part-tracer-total-start c = search needs
-
 part-tracer-total-end : tie.Need-part-tracer-total-end Inv-loop μ-loop
 part-tracer-total-end c = omega (arith, within c, c .before .before .before .before .pre .1)
 
@@ -54,12 +48,6 @@ tracer-total-requires c κs =
     let b = c .before .before .before .before .before in
     let l = c .before .before .loop in
     (b .pre .0, lent-length (b .args .shape) (b .args .field .now) (b .pre .1) (l .s) (l .start) (c .before .before .before .tracer-length .result) (c .before .loop-test .taken) (l .inv .1) (c .before .before .before .tracer-length .ensures))
-
-enum-told : tie.Need-enum-told Inv-loop μ-loop
-enum-told c = search needs
-
-enum-told-2 : tie.Need-enum-told-2 Inv-loop μ-loop
-enum-told-2 c = search needs
 
 returns : tie.Need-returns Inv-loop μ-loop
 unfolding fieldSound
@@ -73,12 +61,6 @@ returns c =
     let f = b .args .field .now in
     sym (all-fails (g .tracers) (λ k. sound quadratic g (part quadratic g k f)) (l .s) (n .loop-test .taken)
     (found-unsound g f (b .pre .1) (l .s) (l .start) (w .result) (n .loop-test .taken) (l .inv .1) (w .ensures) (t .tracer-total .result) (t .tracer-total .ensures) _ (c .enum-told2 .given .1)))
-
-add-s : tie.Need-add-s Inv-loop μ-loop
-add-s c = search needs
-
-loop-less : tie.Need-loop-less Inv-loop μ-loop
-loop-less c = search needs
 
 loop-again : tie.Need-loop-again Inv-loop μ-loop
 loop-again c =
@@ -101,4 +83,4 @@ unfolding fieldSound
 returns-2 c = let e : c .before .loop .s ≡ c .before .before .before .before .args .shape .tracers = omega arith in sym (rw e at (c .before .loop .inv .2))
 
 pub tracers-sound-spec : {M : Type 1} → statement M
-tracers-sound-spec = tie.close (tie.spec Inv-loop μ-loop tracer-length-requires loop-holds add-end mul-tracer-total sub-tracer-total part-tracer-total-start part-tracer-total-end tracer-total-requires enum-told enum-told-2 returns add-s loop-less loop-again returns-2)
+tracers-sound-spec = tie.close (tie.spec Inv-loop μ-loop tracer-length-requires loop-holds add-end mul-tracer-total (λ c. search needs) (λ c. search needs) part-tracer-total-end tracer-total-requires (λ c. search needs) (λ c. search needs) returns (λ c. search needs) (λ c. search needs) loop-again returns-2)

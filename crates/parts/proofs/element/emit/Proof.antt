@@ -14,16 +14,10 @@ add-target c = record { fits = omega (arith, c .mass .ensures, c .before .before
 values-requires : tie.Need-values-requires
 values-requires c κs = c .before .before .before .before .pre .0
 
-slice-aggregate-close : tie.Need-slice-aggregate-close
-slice-aggregate-close c = search needs
-
 close-requires : tie.Need-close-requires
 close-requires c κs =
     let b = c .before .before .before .before .before .before .before in
     (b .pre .0, (rw (c .before .before .values .ensures) (own-tentative (b .args .part .now) (omega (arith, b .pre))), omega (arith, c .before .before .before .before .mass .ensures, b .pre)))
-
-same-length : tie.Need-same-length
-same-length c = search needs
 
 returns : tie.Need-returns
 returns c =
@@ -31,4 +25,4 @@ returns c =
     c .before .before .close .ensures ∙ (rw (c .before .before .before .before .before .values .ensures, c .before .before .before .before .before .before .before .mass .ensures) (emitted-is (a .part .now) (a .q)))
 
 pub emit-spec : {M : Type 1} → statement M
-emit-spec = tie.close (tie.spec mass-requires add-target values-requires slice-aggregate-close close-requires same-length returns)
+emit-spec = tie.close (tie.spec mass-requires add-target values-requires (λ c. search needs) close-requires (λ c. search needs) returns)

@@ -4,11 +4,8 @@ use Rattle.parts.proofs.ElementLaws.{mass-first}
 use Rattle.parts.proofs.element.mass.Statement.{statement}
 use Rattle.parts.proofs.element.mass.Tie as tie
 
-weigh-requires : tie.Need-weigh-requires
-weigh-requires c κs = search needs
-
 returns : tie.Need-returns
 returns c = c .weigh .ensures .0 ∙ mass-first (c .before .before .args .part .now)
 
 pub mass-spec : {M : Type 1} → statement M
-mass-spec = tie.close (tie.spec weigh-requires returns)
+mass-spec = tie.close (tie.spec (λ c κs. search needs) returns)

@@ -23,26 +23,8 @@ loop-holds : tie.Need-loop-holds Inv-loop μ-loop
 unfolding table
 loop-holds c = (omega arith, refl, refl)
 
-mul-psi : tie.Need-mul-psi Inv-loop μ-loop
-mul-psi c = search needs
-
-shared-slice-read-psi : tie.Need-shared-slice-read-psi Inv-loop μ-loop
-shared-slice-read-psi c = search needs
-
 cast-psi : tie.Need-cast-psi Inv-loop μ-loop
 cast-psi c = record { sfits = omega (arith, c .shared-slice-known .given (c .before .before .loop .k)) }
-
-mul-psi-2 : tie.Need-mul-psi-2 Inv-loop μ-loop
-mul-psi-2 c = search needs
-
-array-set-from-psi : tie.Need-array-set-from-psi Inv-loop μ-loop
-array-set-from-psi c = search needs
-
-add-k : tie.Need-add-k Inv-loop μ-loop
-add-k c = search needs
-
-loop-less : tie.Need-loop-less Inv-loop μ-loop
-loop-less c = search needs
 
 loop-again : tie.Need-loop-again Inv-loop μ-loop
 loop-again c =
@@ -57,4 +39,4 @@ returns c =
     (rw e at (c .before .loop .inv .2)) ∙ append-nil _
 
 pub values-spec : {M : Type 1} → statement M
-values-spec = tie.close (tie.spec Inv-loop μ-loop loop-holds mul-psi shared-slice-read-psi cast-psi mul-psi-2 array-set-from-psi add-k loop-less loop-again returns)
+values-spec = tie.close (tie.spec Inv-loop μ-loop loop-holds (λ c. search needs) (λ c. search needs) cast-psi (λ c. search needs) (λ c. search needs) (λ c. search needs) (λ c. search needs) loop-again returns)

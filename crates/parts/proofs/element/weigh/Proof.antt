@@ -19,18 +19,6 @@ loop-holds : tie.Need-loop-holds Inv-loop μ-loop
 unfolding weighed sum
 loop-holds c = (omega arith, refl, omega arith)
 
-mul-sum : tie.Need-mul-sum Inv-loop μ-loop
-mul-sum c = search needs
-
-array-read-sum : tie.Need-array-read-sum Inv-loop μ-loop
-array-read-sum c = search needs
-
-mul-sum-2 : tie.Need-mul-sum-2 Inv-loop μ-loop
-mul-sum-2 c = search needs
-
-shared-slice-read-sum : tie.Need-shared-slice-read-sum Inv-loop μ-loop
-shared-slice-read-sum c = search needs
-
 cast-sum : tie.Need-cast-sum Inv-loop μ-loop
 cast-sum c =
     let k = c .before .before .loop .v in
@@ -46,12 +34,6 @@ add-sum c =
     let k = c .before .before .loop .v in
     record { fits = omega (arith, c .before .before .loop .inv .2, c .shared-slice-known .given k, weight-le k (getD (c .before .before .before .args .numbers .now) k 0) (omega arith)) }
 
-add-v : tie.Need-add-v Inv-loop μ-loop
-add-v c = search needs
-
-loop-less : tie.Need-loop-less Inv-loop μ-loop
-loop-less c = search needs
-
 loop-again : tie.Need-loop-again Inv-loop μ-loop
 loop-again c =
     let k = c .before .before .loop .v in
@@ -64,4 +46,4 @@ returns c =
     ((rw e at (c .before .loop .inv .1)), omega arith)
 
 pub weigh-spec : {M : Type 1} → statement M
-weigh-spec = tie.close (tie.spec Inv-loop μ-loop loop-holds mul-sum array-read-sum mul-sum-2 shared-slice-read-sum cast-sum mul-sum-3 add-sum add-v loop-less loop-again returns)
+weigh-spec = tie.close (tie.spec Inv-loop μ-loop loop-holds (λ c. search needs) (λ c. search needs) (λ c. search needs) (λ c. search needs) cast-sum mul-sum-3 add-sum (λ c. search needs) (λ c. search needs) loop-again returns)

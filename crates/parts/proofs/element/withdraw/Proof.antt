@@ -14,16 +14,10 @@ sub-target c = omega (arith, c .mass .ensures, c .before .before .before .pre .1
 values-requires : tie.Need-values-requires
 values-requires c κs = c .before .before .before .before .pre .0
 
-slice-aggregate-close-unlevelled : tie.Need-slice-aggregate-close-unlevelled
-slice-aggregate-close-unlevelled c = search needs
-
 close-unlevelled-requires : tie.Need-close-unlevelled-requires
 close-unlevelled-requires c κs =
     let b = c .before .before .before .before .before .before .before in
     (b .pre .0, (rw (c .before .before .values .ensures) (own-tentative (b .args .part .now) (omega (arith, b .pre))), omega (arith, c .before .before .before .before .mass .ensures, b .pre)))
-
-same-length : tie.Need-same-length
-same-length c = search needs
 
 returns : tie.Need-returns
 returns c =
@@ -31,4 +25,4 @@ returns c =
     c .before .before .close-unlevelled .ensures ∙ (rw (c .before .before .before .before .before .values .ensures, c .before .before .before .before .before .before .before .mass .ensures) (withdrawn-is (a .part .now) (a .q)))
 
 pub withdraw-spec : {M : Type 1} → statement M
-withdraw-spec = tie.close (tie.spec mass-requires sub-target values-requires slice-aggregate-close-unlevelled close-unlevelled-requires same-length returns)
+withdraw-spec = tie.close (tie.spec mass-requires sub-target values-requires (λ c. search needs) close-unlevelled-requires (λ c. search needs) returns)

@@ -20,18 +20,6 @@ loop-holds : tie.Need-loop-holds Inv-loop μ-loop
 unfolding table
 loop-holds c = (omega arith, refl, refl)
 
-mul-field : tie.Need-mul-field Inv-loop μ-loop
-mul-field c = search needs
-
-slice-write-field : tie.Need-slice-write-field Inv-loop μ-loop
-slice-write-field c = search needs
-
-add-k : tie.Need-add-k Inv-loop μ-loop
-add-k c = search needs
-
-loop-less : tie.Need-loop-less Inv-loop μ-loop
-loop-less c = search needs
-
 loop-again : tie.Need-loop-again Inv-loop μ-loop
 loop-again c =
     let l = c .before .loop in
@@ -49,4 +37,4 @@ returns c =
     (rw e at (c .before .loop .inv .2)) ∙ filled-front (a .n) (λ i. 0) (a .field .now) ∙ ap (λ y. overwrite 0 y (a .field .now)) (table-const (a .n) (0))
 
 pub clear-spec : {M : Type 1} → statement M
-clear-spec = tie.close (tie.spec Inv-loop μ-loop loop-holds mul-field slice-write-field add-k loop-less loop-again same-length returns)
+clear-spec = tie.close (tie.spec Inv-loop μ-loop loop-holds (λ c. search needs) (λ c. search needs) (λ c. search needs) (λ c. search needs) loop-again same-length returns)

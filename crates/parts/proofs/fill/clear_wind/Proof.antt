@@ -21,18 +21,6 @@ loop-holds : tie.Need-loop-holds Inv-loop μ-loop
 unfolding table
 loop-holds c = (omega arith, refl, refl)
 
-mul-winds : tie.Need-mul-winds Inv-loop μ-loop
-mul-winds c = search needs
-
-slice-set-of-winds : tie.Need-slice-set-of-winds Inv-loop μ-loop
-slice-set-of-winds c = search needs
-
-add-f : tie.Need-add-f Inv-loop μ-loop
-add-f c = search needs
-
-loop-less : tie.Need-loop-less Inv-loop μ-loop
-loop-less c = search needs
-
 loop-again : tie.Need-loop-again Inv-loop μ-loop
 loop-again c =
     let l = c .before .loop in
@@ -50,4 +38,4 @@ returns c =
     (rw e at (c .before .loop .inv .2)) ∙ filled-front (a .n) (λ i. pos 0) (a .winds .now) ∙ ap (λ y. overwrite 0 y (a .winds .now)) (table-const (a .n) (pos 0))
 
 pub clear-wind-spec : {M : Type 1} → statement M
-clear-wind-spec = tie.close (tie.spec Inv-loop μ-loop loop-holds mul-winds slice-set-of-winds add-f loop-less loop-again same-length returns)
+clear-wind-spec = tie.close (tie.spec Inv-loop μ-loop loop-holds (λ c. search needs) (λ c. search needs) (λ c. search needs) (λ c. search needs) loop-again same-length returns)

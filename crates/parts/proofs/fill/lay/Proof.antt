@@ -24,9 +24,6 @@ loop-holds : tie.Need-loop-holds Inv-loop μ-loop
 unfolding blocks
 loop-holds c = (omega arith, omega arith, omega arith, refl)
 
-add-from-end : tie.Need-add-from-end Inv-loop μ-loop
-add-from-end c = search needs
-
 add-to-end : tie.Need-add-to-end Inv-loop μ-loop
 add-to-end c = omega (arith, c .before .loop .inv .2)
 
@@ -36,41 +33,14 @@ long c =
     let a = c .before .before .before .before .args in
     ap length (c .before .loop .inv .3) ∙ length-filled 10 (loadedElement quadratic (a .numbers .now)) (loaded-length (a .numbers .now)) (c .before .loop .e) (a .part .now) (omega (arith, c .before .before .before .before .pre .0)) ∙ c .before .before .before .before .pre .0
 
-mul-lay-element : tie.Need-mul-lay-element Inv-loop μ-loop
-mul-lay-element c = search needs
-
-sub-lay-element : tie.Need-sub-lay-element Inv-loop μ-loop
-sub-lay-element c = search needs
-
-part-lay-element-start : tie.Need-part-lay-element-start Inv-loop μ-loop
-part-lay-element-start c = search needs
-
 part-lay-element-end : tie.Need-part-lay-element-end Inv-loop μ-loop
 part-lay-element-end c = omega (arith, long c)
-
-mul-lay-element-2 : tie.Need-mul-lay-element-2 Inv-loop μ-loop
-mul-lay-element-2 c = search needs
-
-sub-lay-element-2 : tie.Need-sub-lay-element-2 Inv-loop μ-loop
-sub-lay-element-2 c = search needs
-
-part-lay-element-start-2 : tie.Need-part-lay-element-start-2 Inv-loop μ-loop
-part-lay-element-start-2 c = search needs
-
-part-lay-element-end-2 : tie.Need-part-lay-element-end-2 Inv-loop μ-loop
-part-lay-element-end-2 c = search needs
 
 lay-element-requires : tie.Need-lay-element-requires Inv-loop μ-loop
 lay-element-requires c κs =
     let l = c .before .before .before .loop in
     let p = c .before .before .before .before .before .before .args .numbers .now in
     (part-size 10 (l .to) (l .to + 10 - l .to) (l .part) (add-sub-cancel-left (l .to) 10) (omega (arith, long (c .before .before))), part-size 9 (l .from) (l .from + 9 - l .from) p (add-sub-cancel-left (l .from) 9) (omega arith))
-
-add-e : tie.Need-add-e Inv-loop μ-loop
-add-e c = search needs
-
-loop-less : tie.Need-loop-less Inv-loop μ-loop
-loop-less c = search needs
 
 loop-again : tie.Need-loop-again Inv-loop μ-loop
 loop-again c =
@@ -90,4 +60,4 @@ returns c =
     (rw e at (c .before .loop .inv .3)) ∙ ap (λ y. blocks (a .n) (loadedElement quadratic (a .numbers .now)) ++ y) (drop-of-length-le (a .part .now) {i = a .n * 10} (omega (arith, c .before .before .before .before .pre .0))) ∙ append-nil _
 
 pub lay-spec : {M : Type 1} → statement M
-lay-spec = tie.close (tie.spec Inv-loop μ-loop loop-holds add-from-end add-to-end mul-lay-element sub-lay-element part-lay-element-start part-lay-element-end mul-lay-element-2 sub-lay-element-2 part-lay-element-start-2 part-lay-element-end-2 lay-element-requires add-e loop-less loop-again same-length returns)
+lay-spec = tie.close (tie.spec Inv-loop μ-loop loop-holds (λ c. search needs) add-to-end (λ c. search needs) (λ c. search needs) (λ c. search needs) part-lay-element-end (λ c. search needs) (λ c. search needs) (λ c. search needs) (λ c. search needs) lay-element-requires (λ c. search needs) (λ c. search needs) loop-again same-length returns)

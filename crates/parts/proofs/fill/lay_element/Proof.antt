@@ -22,24 +22,6 @@ loop-holds : tie.Need-loop-holds Inv-loop μ-loop
 unfolding table
 loop-holds c = (omega arith, c .pre .0, refl)
 
-mul-part : tie.Need-mul-part Inv-loop μ-loop
-mul-part c = search needs
-
-shared-slice-read-part : tie.Need-shared-slice-read-part Inv-loop μ-loop
-shared-slice-read-part c = search needs
-
-mul-part-2 : tie.Need-mul-part-2 Inv-loop μ-loop
-mul-part-2 c = search needs
-
-slice-write-part : tie.Need-slice-write-part Inv-loop μ-loop
-slice-write-part c = search needs
-
-add-k : tie.Need-add-k Inv-loop μ-loop
-add-k c = search needs
-
-loop-less : tie.Need-loop-less Inv-loop μ-loop
-loop-less c = search needs
-
 loop-again : tie.Need-loop-again Inv-loop μ-loop
 loop-again c =
     let l = c .before .before .loop in
@@ -62,4 +44,4 @@ returns c =
     ∙ ap (λ t. t ++ (0 ∷ [])) (table-cong 9 (λ i. getD (a .numbers .now) i 0) (λ i. getD (a .numbers .now) (0 * 9 + i) 0) (λ i _. ap (λ n. getD (a .numbers .now) n 0) (sym (zero-add i))))
 
 pub lay-element-spec : {M : Type 1} → statement M
-lay-element-spec = tie.close (tie.spec Inv-loop μ-loop loop-holds mul-part shared-slice-read-part mul-part-2 slice-write-part add-k loop-less loop-again slice-write-part-2 same-length returns)
+lay-element-spec = tie.close (tie.spec Inv-loop μ-loop loop-holds (λ c. search needs) (λ c. search needs) (λ c. search needs) (λ c. search needs) (λ c. search needs) (λ c. search needs) loop-again slice-write-part-2 same-length returns)

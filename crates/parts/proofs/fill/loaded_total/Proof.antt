@@ -22,21 +22,6 @@ loop-holds : tie.Need-loop-holds Inv-loop μ-loop
 unfolding Rattle.whole.specs.Sum.sum
 loop-holds c = (omega arith, omega arith, refl, omega arith)
 
-add-end : tie.Need-add-end Inv-loop μ-loop
-add-end c = search needs
-
-mul-weigh : tie.Need-mul-weigh Inv-loop μ-loop
-mul-weigh c = search needs
-
-sub-weigh : tie.Need-sub-weigh Inv-loop μ-loop
-sub-weigh c = search needs
-
-part-weigh-start : tie.Need-part-weigh-start Inv-loop μ-loop
-part-weigh-start c = search needs
-
-part-weigh-end : tie.Need-part-weigh-end Inv-loop μ-loop
-part-weigh-end c = search needs
-
 weigh-requires : tie.Need-weigh-requires Inv-loop μ-loop
 weigh-requires c κs =
     let l = c .before .before .loop in
@@ -45,12 +30,6 @@ weigh-requires c κs =
 
 add-sum : tie.Need-add-sum Inv-loop μ-loop
 add-sum c = record { fits = omega (arith, c .weigh .ensures .1, c .before .before .before .loop .inv .3) }
-
-add-e : tie.Need-add-e Inv-loop μ-loop
-add-e c = search needs
-
-loop-less : tie.Need-loop-less Inv-loop μ-loop
-loop-less c = search needs
 
 loop-again : tie.Need-loop-again Inv-loop μ-loop
 loop-again c =
@@ -64,4 +43,4 @@ returns : tie.Need-returns Inv-loop μ-loop
 returns c = let e : c .before .loop .e ≡ c .before .before .before .args .n = omega arith in rw e at (c .before .loop .inv .2)
 
 pub loaded-total-spec : {M : Type 1} → statement M
-loaded-total-spec = tie.close (tie.spec Inv-loop μ-loop loop-holds add-end mul-weigh sub-weigh part-weigh-start part-weigh-end weigh-requires add-sum add-e loop-less loop-again returns)
+loaded-total-spec = tie.close (tie.spec Inv-loop μ-loop loop-holds (λ c. search needs) (λ c. search needs) (λ c. search needs) (λ c. search needs) (λ c. search needs) weigh-requires add-sum (λ c. search needs) (λ c. search needs) loop-again returns)

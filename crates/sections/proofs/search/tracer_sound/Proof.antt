@@ -89,26 +89,11 @@ number32-requires c κs =
     let r = room e in
     omega (arith, s .pre .1, tracer-is (s .args .shape))
 
-cast-x : tie.Need-cast-x Inv-numbers μ-numbers Inv-elements μ-elements Inv-rows μ-rows
-cast-x c = search needs
-
-mul-sum : tie.Need-mul-sum Inv-numbers μ-numbers Inv-elements μ-elements Inv-rows μ-rows
-mul-sum c = search needs
-
-array-read-sum : tie.Need-array-read-sum Inv-numbers μ-numbers Inv-elements μ-elements Inv-rows μ-rows
-array-read-sum c = search needs
-
 mul-sum-2 : tie.Need-mul-sum-2 Inv-numbers μ-numbers Inv-elements μ-elements Inv-rows μ-rows
 mul-sum-2 c = let n = c .before .before .before .numbers in record { fits = omega (arith, c .before .number32 .ok, weight-le (n .v) (c .before .number32 .result) (omega arith)) }
 
 add-sum : tie.Need-add-sum Inv-numbers μ-numbers Inv-elements μ-elements Inv-rows μ-rows
 add-sum c = let n = c .before .before .before .numbers in record { fits = omega (arith, c .before .number32 .ok, weight-le (n .v) (c .before .number32 .result) (omega arith)) }
-
-add-v : tie.Need-add-v Inv-numbers μ-numbers Inv-elements μ-elements Inv-rows μ-rows
-add-v c = search needs
-
-numbers-less : tie.Need-numbers-less Inv-numbers μ-numbers Inv-elements μ-elements Inv-rows μ-rows
-numbers-less c = search needs
 
 -- the sum with one number more
 summed : (c : tie.Joined1 Inv-numbers μ-numbers Inv-elements μ-elements Inv-rows μ-rows)
@@ -138,12 +123,6 @@ numbers-again c =
 add-start : tie.Need-add-start Inv-numbers μ-numbers Inv-elements μ-elements Inv-rows μ-rows
 add-start c = let r = room (c .before .before) in record { fits = omega arith }
 
-add-i : tie.Need-add-i Inv-numbers μ-numbers Inv-elements μ-elements Inv-rows μ-rows
-add-i c = search needs
-
-elements-less : tie.Need-elements-less Inv-numbers μ-numbers Inv-elements μ-elements Inv-rows μ-rows
-elements-less c = search needs
-
 elements-again : tie.Need-elements-again Inv-numbers μ-numbers Inv-elements μ-elements Inv-rows μ-rows
 elements-again c =
     let b = c .before .before .before in
@@ -163,12 +142,6 @@ elements-again c =
       omega arith,
       omega arith,
     )
-
-add-j : tie.Need-add-j Inv-numbers μ-numbers Inv-elements μ-elements Inv-rows μ-rows
-add-j c = search needs
-
-rows-less : tie.Need-rows-less Inv-numbers μ-numbers Inv-elements μ-elements Inv-rows μ-rows
-rows-less c = search needs
 
 rows-again : tie.Need-rows-again Inv-numbers μ-numbers Inv-elements μ-elements Inv-rows μ-rows
 rows-again c =
@@ -234,20 +207,20 @@ tracer-sound-spec =
     add-number32
     mul-number32
     number32-requires
-    cast-x
-    mul-sum
-    array-read-sum
+    (λ c. search needs)
+    (λ c. search needs)
+    (λ c. search needs)
     mul-sum-2
     add-sum
-    add-v
-    numbers-less
+    (λ c. search needs)
+    (λ c. search needs)
     numbers-again
     add-start
-    add-i
-    elements-less
+    (λ c. search needs)
+    (λ c. search needs)
     elements-again
-    add-j
-    rows-less
+    (λ c. search needs)
+    (λ c. search needs)
     rows-again
     returns
     returns-2

@@ -68,23 +68,11 @@ add-psi-end c = record { fits = omega (arith, ends (c .before)) }
 mul-close : tie.Need-mul-close Inv-loop μ-loop
 mul-close c = record { fits = omega (arith, ends (c .before)) }
 
-sub-close : tie.Need-sub-close Inv-loop μ-loop
-sub-close c = search needs
-
-part-close-start : tie.Need-part-close-start Inv-loop μ-loop
-part-close-start c = search needs
-
 part-close-end : tie.Need-part-close-end Inv-loop μ-loop
 part-close-end c = omega (arith, ends (c .before))
 
 mul-close-2 : tie.Need-mul-close-2 Inv-loop μ-loop
 mul-close-2 c = record { fits = omega (arith, ends (c .before .before)) }
-
-sub-close-2 : tie.Need-sub-close-2 Inv-loop μ-loop
-sub-close-2 c = search needs
-
-part-close-start-2 : tie.Need-part-close-start-2 Inv-loop μ-loop
-part-close-start-2 c = search needs
 
 part-close-end-2 : tie.Need-part-close-end-2 Inv-loop μ-loop
 part-close-end-2 c = omega (arith, ends (c .before .before))
@@ -98,12 +86,6 @@ close-requires c κs =
       part-size 10 (l .start) (l .start + 10 - l .start) (l .part) (add-sub-cancel-left (l .start) 10) (ends i .0),
       (lent-values (b .args .shape) w (b .args .report .now) (l .e) (l .psi) (l .psi + 9 - l .psi) (b .pre .1 .1) (placed i .inside) (l .inv .2) (add-sub-cancel-left (l .psi) 9) .0, c .before .before .target .ensures .1),
     )
-
-add-e : tie.Need-add-e Inv-loop μ-loop
-add-e c = search needs
-
-loop-less : tie.Need-loop-less Inv-loop μ-loop
-loop-less c = search needs
 
 loop-again : tie.Need-loop-again Inv-loop μ-loop
 loop-again c =
@@ -133,4 +115,4 @@ returns c =
     (rw e at (c .before .loop .inv .3)) ∙ ap (λ y. blocks n (newElement (a .shape) (a .work .now) (a .report .now)) ++ y) (drop-of-length-le (a .part .now) {i = n * 10} (omega (arith, b .pre .1 .0))) ∙ append-nil _
 
 pub finish-spec : {M : Type 1} → statement M
-finish-spec = tie.close (tie.spec Inv-loop μ-loop mul-n mul-psi mul-psi-2 loop-holds target-requires add-end add-psi-end mul-close sub-close part-close-start part-close-end mul-close-2 sub-close-2 part-close-start-2 part-close-end-2 close-requires add-e loop-less loop-again same-length returns)
+finish-spec = tie.close (tie.spec Inv-loop μ-loop mul-n mul-psi mul-psi-2 loop-holds target-requires add-end add-psi-end mul-close (λ c. search needs) (λ c. search needs) part-close-end mul-close-2 (λ c. search needs) (λ c. search needs) part-close-end-2 close-requires (λ c. search needs) (λ c. search needs) loop-again same-length returns)

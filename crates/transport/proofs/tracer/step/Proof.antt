@@ -132,9 +132,6 @@ finish-requires c κs =
     let r = c .before .before .before .before in
     (b .pre .0, (b .pre .1 .0, all-finished (a .shape) (a .wind .now) (a .part .now) (b .pre .0) (b .pre .1 .1 .1 .0) (b .pre .1 .0) (b .pre .1 .1 .0) (d .amounts .last .0) (after-amounts d) (a .report .now) (r .limit .last .1 .0) (wide b .2) (r .limit .ensures) (omega (arith, long-5 d, wide b))))
 
-same-length : tie.Need-same-length
-same-length c = search needs
-
 same-length-2 : tie.Need-same-length-2
 same-length-2 c = c .before .before .before .before .before .before .before .limit .ensures .long
 
@@ -153,4 +150,4 @@ returns c =
     )
 
 pub step-spec : {M : Type 1} → statement M
-step-spec = tie.close (tie.spec start-requires advance-requires advance-requires-2 advance-requires-3 fluxes-requires amounts-requires limit-requires finish-requires same-length same-length-2 same-length-3 returns)
+step-spec = tie.close (tie.spec start-requires advance-requires advance-requires-2 advance-requires-3 fluxes-requires amounts-requires limit-requires finish-requires (λ c. search needs) same-length-2 same-length-3 returns)
