@@ -14,7 +14,7 @@ use Rattle.rules.specs.declared.Shape.{Shape}
 use Rattle.rules.specs.declared.Refusal.{Refusal}
 use Rattle.rules.specs.declared.Refusal.the-variants.{NoFieldFile, BadShape, BadOffsets, ShortBuffer, WindOutOfRange, UnsoundTracer, NoSuchTracer, NoSuchElement, TotalAboveLimit, MassTooSmall}
 use Rattle.rules.specs.Answers.{Answer, accepted, refused, number}
-use Rattle.places.specs.Places.{Sized}
+use Rattle.field_layout.specs.Places.{Sized}
 use Rattle.c_numbers.specs.Numbers.{faceOf, numberOr, Small, shapeNumber, shapeOr, SmallShape}
 
 -- ---- an answered number, and a refusal's, as signed numbers

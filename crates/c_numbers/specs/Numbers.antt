@@ -6,7 +6,7 @@ use Rattle.rules.specs.declared.Shape.{Shape}
 use Rattle.rules.specs.declared.Face.{Face}
 use Rattle.rules.specs.declared.Way.the-variants.{East, North}
 use Rattle.rules.specs.Answers.{Answer, accepted, refused}
-use Rattle.places.specs.Places.{Sized}
+use Rattle.field_layout.specs.Places.{Sized}
 
 -- a shape from its three numbers
 abbrev pub shapeOf : ℕ → ℕ → ℕ → Shape

@@ -13,12 +13,12 @@ use Rattle.rules.specs.declared.Shape.{Shape}
 use Rattle.rules.specs.Answers.{Answer, accepted, refused, Check, check, answer, plain}
 use Rattle.rules.specs.Field.{quadratic, admitted, element, onGrid, fieldLength, part, withPart, mass, total, limit}
 use Rattle.rules.specs.Calls.{Operation, emission, withdrawal, Lent, lentEnough, soundIfThere, checks, done, call, massReading, totalReading}
-use Rattle.places.specs.Places.{Inside}
-use Rattle.searches.specs.Search.{searched}
+use Rattle.field_layout.specs.Places.{Inside}
+use Rattle.field_search.specs.Search.{searched}
 use Rattle.rules.proofs.AnswerLaws.{answer-ind, prefix-refused, prefix-accepted, after-refused, after-accepted}
 use Rattle.rules.proofs.FieldLaws.{Ranges, ranges, total-small, sound-there}
 use Rattle.rules.proofs.PartLaws.{mass-le-total}
-use Rattle.places.proofs.PlaceLaws.{sized}
+use Rattle.field_layout.proofs.PlaceLaws.{sized}
 use Rattle.rules.proofs.GridLaws.{element-lt}
 
 and-true : (b : Bool) → (b && true) ≡ b

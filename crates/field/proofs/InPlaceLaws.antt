@@ -15,8 +15,8 @@ use Rattle.rules.specs.Field.{quadratic, elements, element, elementLength, trac
 use Rattle.rules.specs.Limiter.{closed, closedUnlevelled}
 use Rattle.rules.specs.Calls.{withElement, emitted, withdrawn}
 use Rattle.rules.proofs.LimiterLaws.{weighted-cong, closed-cong, unlevelled-cong}
-use Rattle.places.specs.Places.{Inside, elementStart}
-use Rattle.places.proofs.PlaceLaws.{ten, tracer-is, tracer-room, start-is}
+use Rattle.field_layout.specs.Places.{Inside, elementStart}
+use Rattle.field_layout.proofs.PlaceLaws.{ten, tracer-is, tracer-room, start-is}
 use Rattle.rules.proofs.GridLaws.{element-lt}
 use Rattle.whole.proofs.OverwriteLaws.{part-at}
 

@@ -19,8 +19,8 @@ use Rattle.rules.specs.Grid.{faceIndex}
 use Rattle.rules.specs.Calls.{windInRange, windReply, windAfter, freshReply, freshField, freshWind, zeroField, zeroWind, load, loaded, loadedElement, loadedValue, lentEnough, checks, done, call}
 use Rattle.rules.proofs.FieldLaws.{ranges}
 use Rattle.rules.proofs.PartLaws.{mass-loaded, length-loaded}
-use Rattle.places.specs.Places.{Sized, Inside}
-use Rattle.places.proofs.PlaceLaws.{sized}
+use Rattle.field_layout.specs.Places.{Sized, Inside}
+use Rattle.field_layout.proofs.PlaceLaws.{sized}
 
 module _ (g : Shape) where
   pub sized-of : admitted g ≡ true → Sized g

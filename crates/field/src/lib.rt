@@ -4,29 +4,29 @@ ghost use mathlib.Core.Path.{_≡_};
 ghost use Rattle.rules.specs.Answers.{outcome, reading, plain};
 ghost use Rattle.rules.specs.Field.{quadratic};
 ghost use Rattle.rules.specs.Calls.{load, emission, withdrawal, call, massReading, totalReading, freshReply, freshField, freshWind, windReply, windAfter};
+use field_search::LIMIT;
 use rules::Face;
 use rules::Outcome;
 use rules::Reading;
 use rules::Refusal;
 use rules::Shape;
-use searches::LIMIT;
 
 // A tracer's total. Its checks (2, 4, 6, 7) are the first ones of `mass`, `emission` and `withdrawal`, too.
 pub fn total(field: &[u32], shape: Shape, tracer: usize) -> Reading
     ensures { λ r. ⌜ reading r ≡ totalReading quadratic shape tracer (now (field .entry)) ⌝ }
 {
-    if !places::admitted(shape) {
+    if !field_layout::admitted(shape) {
         return Reading::Refused(Refusal::BadShape);
     }
-    if field.len() < places::field_length(shape) {
+    if field.len() < field_layout::field_length(shape) {
         return Reading::Refused(Refusal::ShortBuffer);
     }
     if shape.tracers <= tracer {
         return Reading::Refused(Refusal::NoSuchTracer);
     }
-    let start = places::tracer_start(shape, tracer);
-    let end = start + places::tracer_length(shape);
-    searches::tracer_total(&field[start..end], shape)
+    let start = field_layout::tracer_start(shape, tracer);
+    let end = start + field_layout::tracer_length(shape);
+    field_search::tracer_total(&field[start..end], shape)
 }
 
 // An element's mass.
@@ -37,12 +37,12 @@ pub fn mass(field: &[u32], shape: Shape, tracer: usize, i: usize, j: usize) -> R
     match found {
         Reading::Refused(r) => Reading::Refused(r),
         Reading::Number(_) => {
-            if !places::on_grid(shape, i, j) {
+            if !field_layout::on_grid(shape, i, j) {
                 return Reading::Refused(Refusal::NoSuchElement);
             }
-            let start = places::element_start(shape, tracer, i, j);
+            let start = field_layout::element_start(shape, tracer, i, j);
             let end = start + 10;
-            Reading::Number(parts::element::mass(&field[start..end]))
+            Reading::Number(field_elements::element::mass(&field[start..end]))
         }
     }
 }
@@ -63,15 +63,15 @@ pub fn emission(
     match found {
         Reading::Refused(r) => Outcome::Refused(r),
         Reading::Number(sum) => {
-            if !places::on_grid(shape, i, j) {
+            if !field_layout::on_grid(shape, i, j) {
                 return Outcome::Refused(Refusal::NoSuchElement);
             }
             if LIMIT - sum < q {
                 return Outcome::Refused(Refusal::TotalAboveLimit);
             }
-            let start = places::element_start(shape, tracer, i, j);
+            let start = field_layout::element_start(shape, tracer, i, j);
             let end = start + 10;
-            parts::element::emit(&mut field[start..end], q);
+            field_elements::element::emit(&mut field[start..end], q);
             Outcome::Accepted
         }
     }
@@ -96,9 +96,9 @@ pub fn withdrawal(
             if held < q {
                 return Outcome::Refused(Refusal::MassTooSmall);
             }
-            let start = places::element_start(shape, tracer, i, j);
+            let start = field_layout::element_start(shape, tracer, i, j);
             let end = start + 10;
-            parts::element::withdraw(&mut field[start..end], q);
+            field_elements::element::withdraw(&mut field[start..end], q);
             Outcome::Accepted
         }
     }
@@ -109,25 +109,25 @@ pub fn load(field: &mut [u32], numbers: &[u32], shape: Shape, tracer: usize) -> 
     ensures { λ r. ⌜ outcome r ≡ plain (call quadratic shape tracer (load (now (numbers .entry))) (now (field .entry)) .reply) ⌝ }
     ensures { λ _. ⌜ now (field .exit) ≡ call quadratic shape tracer (load (now (numbers .entry))) (now (field .entry)) .field ⌝ }
 {
-    if !places::admitted(shape) {
+    if !field_layout::admitted(shape) {
         return Outcome::Refused(Refusal::BadShape);
     }
-    if field.len() < places::field_length(shape) {
+    if field.len() < field_layout::field_length(shape) {
         return Outcome::Refused(Refusal::ShortBuffer);
     }
-    let n = places::elements(shape);
+    let n = field_layout::elements(shape);
     if numbers.len() < n * 9 {
         return Outcome::Refused(Refusal::ShortBuffer);
     }
     if shape.tracers <= tracer {
         return Outcome::Refused(Refusal::NoSuchTracer);
     }
-    if LIMIT < parts::fill::loaded_total(numbers, n) {
+    if LIMIT < field_elements::fill::loaded_total(numbers, n) {
         return Outcome::Refused(Refusal::TotalAboveLimit);
     }
-    let start = places::tracer_start(shape, tracer);
-    let end = start + places::tracer_length(shape);
-    parts::fill::lay(&mut field[start..end], numbers, n);
+    let start = field_layout::tracer_start(shape, tracer);
+    let end = start + field_layout::tracer_length(shape);
+    field_elements::fill::lay(&mut field[start..end], numbers, n);
     Outcome::Accepted
 }
 
@@ -137,19 +137,19 @@ pub fn fresh(field: &mut [u32], winds: &mut [i16], shape: Shape) -> Outcome
     ensures { λ _. ⌜ now (field .exit) ≡ freshField quadratic shape (now (field .entry)) (now (winds .entry)) ⌝ }
     ensures { λ _. ⌜ now (winds .exit) ≡ freshWind quadratic shape (now (field .entry)) (now (winds .entry)) ⌝ }
 {
-    if !places::admitted(shape) {
+    if !field_layout::admitted(shape) {
         return Outcome::Refused(Refusal::BadShape);
     }
-    let length = places::field_length(shape);
-    let faces = places::faces(shape);
+    let length = field_layout::field_length(shape);
+    let faces = field_layout::faces(shape);
     if field.len() < length {
         return Outcome::Refused(Refusal::ShortBuffer);
     }
     if winds.len() < faces {
         return Outcome::Refused(Refusal::ShortBuffer);
     }
-    parts::fill::clear(field, length);
-    parts::fill::clear_wind(winds, faces);
+    field_elements::fill::clear(field, length);
+    field_elements::fill::clear_wind(winds, faces);
     Outcome::Accepted
 }
 
@@ -159,19 +159,19 @@ pub fn wind(winds: &mut [i16], shape: Shape, face: Face) -> Outcome
     ensures { λ _. ⌜ now (winds .exit) ≡ windAfter shape face (now (winds .entry)) ⌝ }
 {
     let new = face.wind;
-    if !places::admitted(shape) {
+    if !field_layout::admitted(shape) {
         return Outcome::Refused(Refusal::BadShape);
     }
-    if winds.len() < places::faces(shape) {
+    if winds.len() < field_layout::faces(shape) {
         return Outcome::Refused(Refusal::ShortBuffer);
     }
-    if !places::wind_in_range(new) {
+    if !field_layout::wind_in_range(new) {
         return Outcome::Refused(Refusal::WindOutOfRange);
     }
-    if !places::on_grid(shape, face.i, face.j) {
+    if !field_layout::on_grid(shape, face.i, face.j) {
         return Outcome::Refused(Refusal::NoSuchElement);
     }
-    let at = places::face_at(shape, face);
+    let at = field_layout::face_at(shape, face);
     winds[at] = new;
     Outcome::Accepted
 }

@@ -7,8 +7,8 @@ use borrow.Author.Tests.{ne-eqb}
 use Rattle.rules.specs.declared.Shape.{Shape}
 use Rattle.rules.specs.Field.{Kind, quadratic, faces, tracerLength}
 use Rattle.rules.specs.FieldFile.{sectionStart, tableStart, fileLength}
-use Rattle.places.specs.Places.{Sized}
-use Rattle.places.proofs.PlaceLaws.{elements-le, tracer-le, row-more}
+use Rattle.field_layout.specs.Places.{Sized}
+use Rattle.field_layout.proofs.PlaceLaws.{elements-le, tracer-le, row-more}
 
 -- ---- any kind of element
 module _ (κ : Kind) (g : Shape) where

@@ -9,7 +9,7 @@ use lib.Arith.{le→nltb}
 use lib.IntN.{ℤ, pos, negsuc, natAbs}
 use lib.ListN.{length, getD}
 use Rattle.whole.proofs.Cases.{cond-ind, cond-yes, cond-no}
-use Rattle.little_endian.proofs.ByteLaws.{length-bytes32, length-bytes16}
+use Rattle.file_numbers.proofs.ByteLaws.{length-bytes32, length-bytes16}
 use Rattle.rules.specs.FieldFile.{byteAt, bytes32, number32, bits16, bytes16, number16}
 
 -- every number of the file is a byte

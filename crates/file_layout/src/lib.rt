@@ -6,7 +6,7 @@ ghost use lib.ListN.{length, getD};
 ghost use Rattle.whole.specs.Sum.{all};
 ghost use Rattle.rules.specs.Field.{quadratic};
 ghost use Rattle.rules.specs.FieldFile.{byteAt, mark, sectionStart, tableStart, fileLength};
-ghost use Rattle.places.specs.Places.{Sized};
+ghost use Rattle.field_layout.specs.Places.{Sized};
 use rules::Shape;
 
 // Where section i starts: the wind's is section 0, tracer s's is section s + 1, and the table comes after the last.
@@ -18,7 +18,7 @@ pub fn section_start(shape: Shape, i: usize) -> usize
     if i == 0 {
         return 0;
     }
-    2 * places::faces(shape) + (i - 1) * (4 * places::tracer_length(shape))
+    2 * field_layout::faces(shape) + (i - 1) * (4 * field_layout::tracer_length(shape))
 }
 
 // Where the table of offsets starts.

@@ -17,8 +17,8 @@ use Rattle.rules.specs.Calls.{windSound}
 use Rattle.rules.specs.FieldFile.{fileLength, tailShape, offsetsRight, fileWind, fileField, fieldSound, readReply, readField, readWind}
 use Rattle.rules.proofs.AnswerLaws.{answer-ind, prefix-refused, prefix-accepted, after-refused, after-accepted}
 use Rattle.rules.proofs.FieldLaws.{ranges}
-use Rattle.places.specs.Places.{Sized}
-use Rattle.places.proofs.PlaceLaws.{sized}
+use Rattle.field_layout.specs.Places.{Sized}
+use Rattle.field_layout.proofs.PlaceLaws.{sized}
 use Rattle.file_reading.specs.Reading.{tailChecks, tailReply, shapeChecks, shapeReply}
 
 -- ---- 3 to 6

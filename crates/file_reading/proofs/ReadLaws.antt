@@ -18,7 +18,7 @@ use Rattle.rules.specs.declared.Shape.{Shape}
 use Rattle.rules.specs.Field.{quadratic, faces, tracerLength, fieldLength, part}
 use Rattle.rules.specs.Calls.{windInRange, windAt, windSound}
 use Rattle.rules.specs.FieldFile.{number32, number16, byteAt, sectionStart, tableStart, fileLength, offsetsRight, fileWind, fileField}
-use Rattle.sections.specs.Numbers.{numbersOf, windsOf}
+use Rattle.file_sections.specs.Numbers.{numbersOf, windsOf}
 use Rattle.file_layout.proofs.LayoutLaws.{tracer-start}
 
 -- ---- numbers of a part of the file

@@ -4,7 +4,7 @@ ghost use lib.ListN.{length};
 ghost use Rattle.rules.specs.Answers.{outcome};
 ghost use Rattle.rules.specs.Field.{quadratic};
 ghost use Rattle.rules.specs.FieldFile.{fileLength, offsetsRight, fileField, fieldSound};
-ghost use Rattle.places.specs.Places.{Sized};
+ghost use Rattle.field_layout.specs.Places.{Sized};
 ghost use Rattle.file_reading.specs.Reading.{shapeReply};
 use rules::Outcome;
 use rules::Refusal;
@@ -20,12 +20,12 @@ fn offsets_right(file: &[u8], shape: Shape) -> bool
         return false;
     }
     let table = file_layout::table_start(shape);
-    if little_endian::number32(file, n - 8) as usize != table {
+    if file_numbers::number32(file, n - 8) as usize != table {
         return false;
     }
     let count = shape.tracers + 1;
     for i in 0..count {
-        if little_endian::number32(file, table + 4 * i) as usize
+        if file_numbers::number32(file, table + 4 * i) as usize
             != file_layout::section_start(shape, i)
         {
             return false;
@@ -44,7 +44,7 @@ fn tracers_sound(file: &[u8], shape: Shape) -> bool
     for s in 0..tracers {
         let start = file_layout::section_start(shape, s + 1);
         let end = file_layout::section_start(shape, s + 2);
-        if !sections::search::tracer_sound(&file[start..end], shape) {
+        if !file_sections::search::tracer_sound(&file[start..end], shape) {
             return false;
         }
     }
@@ -59,16 +59,16 @@ pub(crate) fn check(file: &[u8], field: usize, wind: usize, shape: Shape) -> Out
     if !offsets_right(file, shape) {
         return Outcome::Refused(Refusal::BadOffsets);
     }
-    if field < places::field_length(shape) {
+    if field < field_layout::field_length(shape) {
         return Outcome::Refused(Refusal::ShortBuffer);
     }
-    let faces = places::faces(shape);
+    let faces = field_layout::faces(shape);
     if wind < faces {
         return Outcome::Refused(Refusal::ShortBuffer);
     }
     let start = file_layout::section_start(shape, 0);
     let end = file_layout::section_start(shape, 1);
-    if !sections::winds_sound(&file[start..end], faces) {
+    if !file_sections::winds_sound(&file[start..end], faces) {
         return Outcome::Refused(Refusal::WindOutOfRange);
     }
     if !tracers_sound(file, shape) {

@@ -7,7 +7,7 @@ ghost use Rattle.whole.specs.Table.{overwrite};
 ghost use Rattle.rules.specs.Answers.{fileAnswer};
 ghost use Rattle.rules.specs.Field.{quadratic, faces, fieldLength};
 ghost use Rattle.rules.specs.FieldFile.{fileLength, fileWind, fileField, readReply, readField, readWind};
-ghost use Rattle.places.specs.Places.{Sized};
+ghost use Rattle.field_layout.specs.Places.{Sized};
 ghost use Rattle.file_reading.specs.Reading.{tailAnswer};
 use rules::FileRead;
 use rules::Outcome;
@@ -36,7 +36,7 @@ fn read_wind(file: &[u8], wind: &mut [i16], shape: Shape)
 {
     let start = file_layout::section_start(shape, 0);
     let end = file_layout::section_start(shape, 1);
-    sections::read_winds(&file[start..end], wind, places::faces(shape));
+    file_sections::read_winds(&file[start..end], wind, field_layout::faces(shape));
 }
 
 // Reads every tracer's section into its part of the field.
@@ -46,14 +46,14 @@ fn read_tracers(file: &[u8], field: &mut [u32], shape: Shape)
     requires { ⌜ fieldLength quadratic shape ≤ length (now field) ⌝ }
     ensures { λ _. ⌜ now (field .exit) ≡ overwrite 0 (fileField quadratic shape (now (file .entry))) (now (field .entry)) ⌝ }
 {
-    let n = places::tracer_length(shape);
+    let n = field_layout::tracer_length(shape);
     let tracers = shape.tracers;
     let mut to = 0;
     for s in 0..tracers {
         let from = file_layout::section_start(shape, s + 1);
         let from_end = file_layout::section_start(shape, s + 2);
         let to_end = to + n;
-        sections::read_numbers(&file[from..from_end], &mut field[to..to_end], n);
+        file_sections::read_numbers(&file[from..from_end], &mut field[to..to_end], n);
         to = to_end;
     }
 }

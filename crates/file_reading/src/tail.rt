@@ -36,7 +36,7 @@ pub(crate) fn read_tail(file: &[u8]) -> Tail
         ny: wide(file[n - 11]),
         tracers: wide(file[n - 10]),
     };
-    if !places::admitted(shape) {
+    if !field_layout::admitted(shape) {
         return Tail::Refused(Refusal::BadShape);
     }
     Tail::Shape(shape)

@@ -14,15 +14,15 @@ use Rattle.rules.specs.declared.Shape.{Shape}
 use Rattle.rules.specs.Field.{quadratic, tracerLength, fieldLength, part, sound}
 use Rattle.rules.specs.FieldFile.{bytes32, tableStart, mark, tail}
 use Rattle.rules.proofs.PartLaws.{part-length}
-use Rattle.places.specs.Places.{Sized}
-use Rattle.searches.specs.Search.{searched}
+use Rattle.field_layout.specs.Places.{Sized}
+use Rattle.field_search.specs.Search.{searched}
 use Rattle.rules.specs.declared.Refusal.{Refusal}
 use Rattle.rules.specs.declared.Reading.{Reading}
 use Rattle.rules.specs.declared.Reading.the-variants as Reading
 use Rattle.rules.specs.Answers.{number, reading}
-use Rattle.searches.proofs.SearchLaws.{searched-yes, searched-no}
-use Rattle.places.proofs.PlaceLaws.{tracer-room, field-is, field-le}
-use Rattle.little_endian.proofs.ByteLaws.{stored-4}
+use Rattle.field_search.proofs.SearchLaws.{searched-yes, searched-no}
+use Rattle.field_layout.proofs.PlaceLaws.{tracer-room, field-is, field-le}
+use Rattle.file_numbers.proofs.ByteLaws.{stored-4}
 use Rattle.file_layout.proofs.FileLaws.{shapeBytes}
 use Rattle.file_layout.proofs.NumberLaws.{code32}
 use Rattle.whole.proofs.ListParts.{blocks-split, overwrite-next, part-written, overwritten}

@@ -7,7 +7,7 @@ ghost use lib.ListN.{length};
 ghost use Rattle.rules.specs.Answers.{reading};
 ghost use Rattle.rules.specs.Field.{quadratic, faces, fieldLength};
 ghost use Rattle.rules.specs.FieldFile.{fileLength, fieldSound, writeReply};
-ghost use Rattle.places.specs.Places.{Sized};
+ghost use Rattle.field_layout.specs.Places.{Sized};
 use rules::Reading;
 use rules::Refusal;
 use rules::Shape;
@@ -17,10 +17,10 @@ fn lent_enough(field: usize, wind: usize, file: usize, shape: Shape) -> bool
     requires { ⌜ Sized shape ⌝ }
     ensures { λ r. ⌜ r ≡ (leb (fieldLength quadratic shape) field && (leb (faces shape) wind && leb (fileLength quadratic shape) file)) ⌝ }
 {
-    if field < places::field_length(shape) {
+    if field < field_layout::field_length(shape) {
         return false;
     }
-    if wind < places::faces(shape) {
+    if wind < field_layout::faces(shape) {
         return false;
     }
     file_layout::file_length(shape) <= file
@@ -33,11 +33,11 @@ fn tracers_sound(field: &[u32], shape: Shape) -> bool
     ensures { λ r. ⌜ r ≡ fieldSound quadratic shape (now (field .entry)) ⌝ }
 {
     let tracers = shape.tracers;
-    let length = places::tracer_length(shape);
+    let length = field_layout::tracer_length(shape);
     let mut start = 0;
     for s in 0..tracers {
         let end = start + length;
-        let found = searches::tracer_total(&field[start..end], shape);
+        let found = field_search::tracer_total(&field[start..end], shape);
         let Reading::Number(_) = found else {
             return false;
         };
@@ -50,13 +50,13 @@ fn tracers_sound(field: &[u32], shape: Shape) -> bool
 pub(crate) fn check(file: &[u8], field: &[u32], wind: &[i16], shape: Shape) -> Reading
     ensures { λ r. ⌜ reading r ≡ writeReply quadratic shape (now (field .entry)) (now (wind .entry)) (now (file .entry)) ⌝ }
 {
-    if !places::admitted(shape) {
+    if !field_layout::admitted(shape) {
         return Reading::Refused(Refusal::BadShape);
     }
     if !lent_enough(field.len(), wind.len(), file.len(), shape) {
         return Reading::Refused(Refusal::ShortBuffer);
     }
-    if !searches::winds_sound(wind, shape) {
+    if !field_search::winds_sound(wind, shape) {
         return Reading::Refused(Refusal::WindOutOfRange);
     }
     if !tracers_sound(field, shape) {

@@ -7,7 +7,7 @@ ghost use Rattle.whole.specs.Table.{blocks, overwrite};
 ghost use Rattle.rules.specs.Answers.{reading};
 ghost use Rattle.rules.specs.Field.{quadratic, faces, fieldLength};
 ghost use Rattle.rules.specs.FieldFile.{bytes32, sectionStart, fileLength, tail, fileOf, writeReply, writeFile};
-ghost use Rattle.places.specs.Places.{Sized};
+ghost use Rattle.field_layout.specs.Places.{Sized};
 use file_layout::MARK;
 use rules::Reading;
 use rules::Shape;
@@ -22,13 +22,13 @@ fn write_tracers(file: &mut [u8], field: &[u32], shape: Shape)
     ensures { λ _. ⌜ now (file .exit) ≡ overwrite (2 * faces shape) (blocks (fieldLength quadratic shape) (λ i. bytes32 (getD (now (field .entry)) i 0))) (now (file .entry)) ⌝ }
 {
     let tracers = shape.tracers;
-    let numbers = places::tracer_length(shape);
-    let mut start = 2 * places::faces(shape);
+    let numbers = field_layout::tracer_length(shape);
+    let mut start = 2 * field_layout::faces(shape);
     let mut from = 0;
     for k in 0..tracers {
         let end = start + 4 * numbers;
         let to = from + numbers;
-        sections::write_numbers(&mut file[start..end], &field[from..to], numbers);
+        file_sections::write_numbers(&mut file[start..end], &field[from..to], numbers);
         start = end;
         from = to;
     }
@@ -42,7 +42,7 @@ fn write_table(table: &mut [u8], shape: Shape)
 {
     let n = shape.tracers + 1;
     for i in 0..n {
-        little_endian::put32(table, 4 * i, file_layout::section_start(shape, i) as u32);
+        file_numbers::put32(table, 4 * i, file_layout::section_start(shape, i) as u32);
     }
 }
 
@@ -56,7 +56,7 @@ fn write_tail(out: &mut [u8], shape: Shape)
     out[1] = shape.ny as u8;
     out[2] = shape.tracers as u8;
     out[3] = 0;
-    little_endian::put32(out, 4, file_layout::table_start(shape) as u32);
+    file_numbers::put32(out, 4, file_layout::table_start(shape) as u32);
     out[8] = MARK[0];
     out[9] = MARK[1];
     out[10] = MARK[2];
@@ -76,7 +76,7 @@ fn write_parts(file: &mut [u8], field: &[u32], wind: &[i16], shape: Shape)
     let table = file_layout::table_start(shape);
     let tail = table + 4 * (shape.tracers + 1);
     let end = file_layout::file_length(shape);
-    sections::write_winds(&mut file[winds..tracers], wind, places::faces(shape));
+    file_sections::write_winds(&mut file[winds..tracers], wind, field_layout::faces(shape));
     write_tracers(file, field, shape);
     write_table(&mut file[table..tail], shape);
     write_tail(&mut file[tail..end], shape);

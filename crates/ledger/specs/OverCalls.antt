@@ -19,7 +19,7 @@ pub record Given : Type 0 where
   pub report : List ℤ
 
 module _ (g : Shape) (b : Buffers) where
-  -- what the `ensures` lines of `field::wind`, `load`, `emission`, `withdrawal` and `transport::step` say, written out again for a call made
+  -- what the `ensures` lines of `field::wind`, `load`, `emission`, `withdrawal` and `step::step` say, written out again for a call made
   -- at state x with a report and a work of the lengths b; and that a call leaves alone what it isn't lent for writing: "between calls nothing
   -- else writes to field or wind"
   abbrev pub Contract : Call → State → Given → Type 0

@@ -30,7 +30,7 @@ use Rattle.rules.proofs.GridLaws.{face-lt}
 use Rattle.output.specs.declared.Lines.{Lines}
 use Rattle.output.specs.declared.Lines.the-variants.{UpTo, Refused}
 use Rattle.output.specs.AddedLines.{tracerRoom, LinesAdded, AddedOrRefused}
-use Rattle.transport.proofs.CheckLaws.{stepping, plain-refused, report-accepted}
+use Rattle.step.proofs.CheckLaws.{stepping, plain-refused, report-accepted}
 
 -- ---- the lines of a report that stands at the front of a longer buffer
 module _ (g : Shape) (s t : ℕ) (a : admitted g ≡ true) (rep old : List ℤ) (size : length rep ≡ faces g) (room : faces g ≤ length old) where

@@ -38,14 +38,14 @@ fn tracer(
     requires { ⌜ at + tracerRoom shape ≤ length (now out) ⌝ }
     ensures { λ r. ⌜ AddedOrRefused (tracerRoom shape) at (stepped shape (now (wind .entry)) tracer (now (field .entry))) (now (field .exit)) (now (out .entry)) (now (out .exit)) r ⌝ }
 {
-    let answer = transport::step(field, wind, report, work, shape, tracer);
+    let answer = step::step(field, wind, report, work, shape, tracer);
     match answer {
         Outcome::Refused(r) => Lines::Refused(r),
         Outcome::Accepted => {
             let found = field::total(field, shape, tracer);
             match found {
                 Reading::Refused(r) => Lines::Refused(r),
-                Reading::Number(total) => Lines::UpTo(lines::tracer_lines(
+                Reading::Number(total) => Lines::UpTo(text_lines::tracer_lines(
                     out,
                     at,
                     shape,
@@ -75,7 +75,7 @@ fn tracers(
     ensures { λ r. ⌜ AddedOrRefused (68 + shape .tracers * tracerRoom shape) 0 (upTo shape (now (wind .entry)) (shape .tracers) (now (field .entry))) (now (field .exit)) (now (out .entry)) (now (out .exit)) r ⌝ }
 {
     let count = shape.tracers;
-    let mut at = lines::grid_line(out, 0, shape);
+    let mut at = text_lines::grid_line(out, 0, shape);
     for s in 0..count {
         let added = tracer(out, field, wind, report, work, shape, s, at);
         let Lines::UpTo(end) = added else {
@@ -103,15 +103,15 @@ fn fill(
     ensures { λ r. ⌜ take r (now (out .exit)) ≡ printed (now (file .entry)) (now (field .entry)) (now (wind .entry)) ⌝ }
 {
     if 65536 < file.len() {
-        return lines::refused_line(out, 0, 3);
+        return text_lines::refused_line(out, 0, 3);
     }
     let answer = file_reading::read(file, field, wind);
     match answer {
-        FileRead::Refused(r) => lines::refused_line(out, 0, rules::refusal_number(r)),
+        FileRead::Refused(r) => text_lines::refused_line(out, 0, rules::refusal_number(r)),
         FileRead::Found(shape) => {
             let added = tracers(out, field, wind, report, work, shape);
             match added {
-                Lines::Refused(r) => lines::refused_line(out, 0, rules::refusal_number(r)),
+                Lines::Refused(r) => text_lines::refused_line(out, 0, rules::refusal_number(r)),
                 Lines::UpTo(end) => end,
             }
         }

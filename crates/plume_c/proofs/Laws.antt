@@ -10,7 +10,7 @@ use Rattle.rules.specs.Field.{quadratic}
 use Rattle.rules.specs.Calls.{massReading, totalReading}
 use Rattle.rules.specs.FieldFile.{readReply, writeReply}
 use Rattle.rules.proofs.FieldLaws.{ranges}
-use Rattle.places.proofs.PlaceLaws.{sized}
+use Rattle.field_layout.proofs.PlaceLaws.{sized}
 use Rattle.field.proofs.CheckLaws.{found, held}
 use Rattle.file_layout.proofs.LayoutLaws.{length-le}
 use Rattle.file_layout.proofs.ReplyLaws.{read-shown, write-shown}

@@ -141,7 +141,7 @@ pub extern "C" fn plume_step(
         ny,
         tracers: smokes,
     };
-    c_numbers::code(transport::step(field, wind, report, work, shape, smoke))
+    c_numbers::code(step::step(field, wind, report, work, shape, smoke))
 }
 
 // What an element holds.

@@ -1,7 +1,7 @@
 use mathlib.Core.Path.{ap}
 use native.Mathlib.Omega.{arith}
 use Rattle.rules.specs.Answers.{fileAnswer}
-use Rattle.places.specs.Places.{Sized}
+use Rattle.field_layout.specs.Places.{Sized}
 use Rattle.c_numbers.proofs.NumberLaws.{shape-le, shape-is, shape-refusal-is}
 use borrow.Author.Needs.{needs}
 use Rattle.c_numbers.proofs.shape_or.Statement.{statement}

@@ -9,8 +9,8 @@ use lib.ListN.{length, take, drop}
 use Rattle.rules.specs.Answers.{accepted, reading}
 use Rattle.rules.specs.Field.{quadratic, onGrid, element, mass, part}
 use Rattle.rules.specs.Calls.{totalReading, emitted}
-use Rattle.places.specs.Places.{Inside, elementStart}
-use Rattle.places.proofs.PlaceLaws.{element-ends}
+use Rattle.field_layout.specs.Places.{Inside, elementStart}
+use Rattle.field_layout.proofs.PlaceLaws.{element-ends}
 use Rattle.whole.proofs.OverwriteLaws.{part-size}
 use Rattle.rules.specs.Calls.{emission, done}
 use Rattle.rules.proofs.CallLaws.{length-emitted}

@@ -10,7 +10,7 @@ use Rattle.whole.specs.Table.{blocks}
 use Rattle.rules.specs.Field.{quadratic, admitted, elements, fieldLength, total}
 use Rattle.rules.specs.Calls.{loaded}
 use Rattle.rules.specs.Calls.{loadedElement}
-use Rattle.places.proofs.PlaceLaws.{tracer-is, elements-le, field-le, field-is, tracer-room}
+use Rattle.field_layout.proofs.PlaceLaws.{tracer-is, elements-le, field-le, field-is, tracer-room}
 use Rattle.whole.proofs.OverwriteLaws.{part-size}
 use Rattle.field.proofs.WindFreshLoad.{sized-of, load-total, load-back, load-2, load-4-field, load-4-numbers, load-7, load-9, load-done}
 use Rattle.field.proofs.load.Statement.{statement}

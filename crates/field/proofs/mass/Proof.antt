@@ -9,8 +9,8 @@ use lib.ListN.{length}
 use Rattle.rules.specs.Answers.{accepted, reading}
 use Rattle.rules.specs.Field.{quadratic, onGrid, mass}
 use Rattle.rules.specs.Calls.{totalReading}
-use Rattle.places.specs.Places.{Inside, elementStart}
-use Rattle.places.proofs.PlaceLaws.{element-ends}
+use Rattle.field_layout.specs.Places.{Inside, elementStart}
+use Rattle.field_layout.proofs.PlaceLaws.{element-ends}
 use Rattle.whole.proofs.OverwriteLaws.{part-size}
 use Rattle.field.proofs.CheckLaws.{found, inside, mass-refused, mass-off-grid, mass-found}
 use Rattle.field.proofs.InPlaceLaws.{mass-lent}

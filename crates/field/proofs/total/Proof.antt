@@ -8,9 +8,9 @@ use borrow.Author.Tests.{not-true, not-false}
 use lib.ListN.{length, take, drop}
 use Rattle.rules.specs.Field.{quadratic, admitted, fieldLength, part}
 use Rattle.rules.proofs.FieldLaws.{ranges}
-use Rattle.places.specs.Places.{Sized}
-use Rattle.searches.specs.Search.{searched}
-use Rattle.places.proofs.PlaceLaws.{sized, field-is, field-le, tracer-room}
+use Rattle.field_layout.specs.Places.{Sized}
+use Rattle.field_search.specs.Search.{searched}
+use Rattle.field_layout.proofs.PlaceLaws.{sized, field-is, field-le, tracer-room}
 use Rattle.rules.proofs.PartLaws.{part-length}
 use Rattle.field.proofs.CheckLaws.{total-bad-shape, total-short, total-no-tracer, total-searched}
 use Rattle.field.proofs.total.Statement.{statement}

@@ -8,8 +8,8 @@ use Rattle.rules.specs.Answers.{accepted, reading}
 use Rattle.rules.specs.Field.{quadratic, element, mass, part}
 use Rattle.rules.specs.Calls.{withdrawal, done, massReading, withdrawn}
 use Rattle.rules.proofs.CallLaws.{length-withdrawn}
-use Rattle.places.specs.Places.{elementStart}
-use Rattle.places.proofs.PlaceLaws.{element-ends}
+use Rattle.field_layout.specs.Places.{elementStart}
+use Rattle.field_layout.proofs.PlaceLaws.{element-ends}
 use Rattle.whole.proofs.OverwriteLaws.{part-size}
 use Rattle.field.proofs.CheckLaws.{Held, held, call-refused, call-accepted, withdrawal-refused, withdrawal-over, withdrawal-accepted}
 use Rattle.field.proofs.InPlaceLaws.{mass-lent, withdrawn-lent, back-in-place}

@@ -3,7 +3,7 @@ use native.Mathlib.Omega.{arith}
 use Prim.Native.Nat.{_-_, _*_, _≤_}
 use borrow.Author.Needs.{needs}
 use Rattle.rules.specs.Field.{quadratic}
-use Rattle.places.proofs.PlaceLaws.{elements-le, tracer-le}
+use Rattle.field_layout.proofs.PlaceLaws.{elements-le, tracer-le}
 use Rattle.file_layout.proofs.LayoutLaws.{wind-start, start-of, tracers-le}
 use Rattle.file_layout.proofs.section_start.Statement.{statement}
 use Rattle.file_layout.proofs.section_start.Tie as tie

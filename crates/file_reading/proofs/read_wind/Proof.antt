@@ -6,7 +6,7 @@ use lib.ListN.{length, take, drop}
 use Rattle.whole.specs.Table.{overwrite}
 use Rattle.whole.proofs.OverwriteLaws.{part-size}
 use Rattle.rules.specs.Field.{faces}
-use Rattle.sections.specs.Numbers.{windsOf}
+use Rattle.file_sections.specs.Numbers.{windsOf}
 use Rattle.file_layout.proofs.LayoutLaws.{wind-span}
 use Rattle.file_reading.proofs.ReadLaws.{winds-are}
 use Rattle.file_reading.proofs.read_wind.Statement.{statement}

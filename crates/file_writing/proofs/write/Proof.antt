@@ -3,7 +3,7 @@ use borrow.Author.Needs.{needs}
 use Rattle.rules.specs.Answers.{reading}
 use Rattle.rules.specs.Field.{quadratic}
 use Rattle.rules.proofs.FieldLaws.{ranges}
-use Rattle.places.proofs.PlaceLaws.{sized}
+use Rattle.field_layout.proofs.PlaceLaws.{sized}
 use Rattle.file_layout.proofs.ReplyLaws.{Writable, write-shown, file-written, file-kept}
 use Rattle.file_writing.proofs.write.Statement.{statement}
 use Rattle.file_writing.proofs.write.Tie as tie

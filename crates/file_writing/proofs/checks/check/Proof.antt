@@ -6,8 +6,8 @@ use Rattle.rules.specs.Answers.{accepted}
 use Rattle.rules.specs.Field.{admitted}
 use Rattle.rules.specs.Calls.{windSound}
 use Rattle.rules.proofs.FieldLaws.{ranges}
-use Rattle.places.specs.Places.{Sized}
-use Rattle.places.proofs.PlaceLaws.{sized}
+use Rattle.field_layout.specs.Places.{Sized}
+use Rattle.field_layout.proofs.PlaceLaws.{sized}
 use Rattle.file_writing.proofs.WriteChecks.{enough, rooms, write-2, write-4, write-5, write-6, write-passed}
 use Rattle.file_writing.proofs.checks.check.Statement.{statement}
 use Rattle.file_writing.proofs.checks.check.Tie as tie

@@ -1,0 +1,44 @@
+// The search of a tracer's section of a file, on its bytes: a reader writes no number before every tracer has passed.
+ghost use mathlib.Core.Path.{_≡_};
+ghost use Prim.Native.Nat.{_*_};
+ghost use lib.ListN.{length};
+ghost use Rattle.rules.specs.Field.{quadratic, tracerLength, sound};
+ghost use Rattle.field_layout.specs.Places.{Sized};
+ghost use Rattle.file_sections.specs.Numbers.{numbersOf};
+use field_elements::element::WEIGHTS;
+use field_search::LIMIT;
+use rules::Shape;
+
+// A leaf: whether no remainder of a tracer's section is above 35 and the total is not above the limit. "The search by rows,
+// elements and numbers ends at the first break."
+pub fn tracer_sound(section: &[u8], shape: Shape) -> bool
+    requires { ⌜ Sized shape ⌝ }
+    requires { ⌜ length (now section) ≡ 4 * tracerLength quadratic shape ⌝ }
+    ensures { λ r. ⌜ r ≡ sound quadratic shape (numbersOf (now (section .entry)) (tracerLength quadratic shape)) ⌝ }
+{
+    let nx = shape.nx;
+    let ny = shape.ny;
+    let mut sum: u64 = 0;
+    let mut sound = true;
+    let mut start = 0;
+    'rows: for j in 0..ny {
+        'elements: for i in 0..nx {
+            'numbers: for v in 0..10 {
+                let x = file_numbers::number32(section, 4 * (start + v)) as u64;
+                if v == 9 {
+                    if 35 < x {
+                        sound = false;
+                        break 'rows;
+                    }
+                }
+                sum += WEIGHTS[v] * x;
+                if LIMIT < sum {
+                    sound = false;
+                    break 'rows;
+                }
+            }
+            start += 10;
+        }
+    }
+    sound
+}

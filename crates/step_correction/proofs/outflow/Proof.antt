@@ -1,0 +1,114 @@
+use mathlib.Core.Path.{_≡_, ap, _∙_}
+use Prim.Native.Nat.{_≤_, _<_, _+_}
+use native.Mathlib.Omega.{arith}
+use lib.IntN.{pos}
+use lib.ListN.{length}
+use mir.Syntax.{w64}
+use Rattle.whole.specs.Table.{at}
+use Rattle.whole.specs.Parts.{positive, negative}
+use Rattle.whole.proofs.Sizes.{sizes, fits, within, are-eq, back-is}
+use Rattle.rules.specs.Field.{elements}
+use Rattle.rules.proofs.GridLaws.{west-lt, south-lt}
+use Rattle.step_grid.proofs.Laws.{elements-le}
+use Rattle.step_correction.proofs.Laws.{added}
+use Rattle.step_correction.proofs.outflow.Statement.{statement}
+use Rattle.step_correction.proofs.outflow.Tie as tie
+
+mul-n : tie.Need-mul-n
+mul-n c = record { fits = omega (arith, elements-le (c .before .args .shape) (c .before .pre .0 .small-grid)) }
+
+west-requires : tie.Need-west-requires
+west-requires c κs = c .before .pre .0
+
+south-requires : tie.Need-south-requires
+south-requires c κs = c .before .before .pre .0
+
+-- the four faces are there
+inside : (c : tie.After-south) → (c .before .west .result < elements (c .before .before .before .args .shape)) × (c .south .result < elements (c .before .before .before .args .shape)) × (c .before .before .before .args .e < elements (c .before .before .before .args .shape)) × (elements (c .before .before .before .args .shape) ≤ 4096) × (length (c .before .before .before .args .fluxes .now) ≡ elements (c .before .before .before .args .shape) + elements (c .before .before .before .args .shape))
+inside c =
+    let b = c .before .before .before in
+    let f = b .pre .0 .small-grid in (
+      omega (arith, c .before .west .ensures, west-lt (b .args .shape) (f .nx-above) (f .ny-above) (b .args .e) (b .pre .0 .inside)),
+      omega (arith, c .south .ensures, south-lt (b .args .shape) (f .nx-above) (f .ny-above) (b .args .e) (b .pre .0 .inside)),
+      b .pre .0 .inside,
+      elements-le (b .args .shape) f,
+      b .pre .1 .0,
+    )
+
+add-south : tie.Need-add-south
+add-south c = record { fits = omega (arith, inside c) }
+
+add-north : tie.Need-add-north
+add-north c = record { fits = omega (arith, inside c) }
+
+mul-positive : tie.Need-mul-positive
+mul-positive c = record { fits = omega (arith, inside c) }
+
+shared-slice-copy-out-positive : tie.Need-shared-slice-copy-out-positive
+shared-slice-copy-out-positive c = omega (arith, inside c)
+
+positive-requires : tie.Need-positive-requires
+positive-requires c κs = let h = c .before .before .before .before .pre .1 .1 in within (search sizes depth 20) tt
+
+mul-negative : tie.Need-mul-negative
+mul-negative c = record { fits = omega (arith, inside (c .before .before)) }
+
+shared-slice-copy-out-negative : tie.Need-shared-slice-copy-out-negative
+shared-slice-copy-out-negative c = omega (arith, inside (c .before .before))
+
+negative-requires : tie.Need-negative-requires
+negative-requires c κs = let h = c .before .before .before .before .before .before .pre .1 .1 in within (search sizes depth 20) tt
+
+add-along : tie.Need-add-along
+add-along c = let a = c .negative .ensures in let b = c .before .before .positive .ensures in fits (search sizes depth 20) tt
+
+mul-positive-2 : tie.Need-mul-positive-2
+mul-positive-2 c = record { fits = omega (arith, inside (c .before .before .before .before)) }
+
+shared-slice-copy-out-positive-2 : tie.Need-shared-slice-copy-out-positive-2
+shared-slice-copy-out-positive-2 c = omega (arith, inside (c .before .before .before .before))
+
+positive-requires-2 : tie.Need-positive-requires-2
+positive-requires-2 c κs = let h = c .before .before .before .before .before .before .before .before .pre .1 .1 in within (search sizes depth 20) tt
+
+mul-negative-2 : tie.Need-mul-negative-2
+mul-negative-2 c = record { fits = omega (arith, inside (c .before .before .before .before .before .before)) }
+
+shared-slice-copy-out-negative-2 : tie.Need-shared-slice-copy-out-negative-2
+shared-slice-copy-out-negative-2 c = omega (arith, inside (c .before .before .before .before .before .before))
+
+negative-requires-2 : tie.Need-negative-requires-2
+negative-requires-2 c κs = let h = c .before .before .before .before .before .before .before .before .before .before .pre .1 .1 in within (search sizes depth 20) tt
+
+add-across : tie.Need-add-across
+add-across c = let a = c .negative2 .ensures in let b = c .before .before .positive2 .ensures in fits (search sizes depth 20) tt
+
+add-result : tie.Need-add-result
+add-result c =
+    let p = c .before .before .before .before in
+    let a = c .negative2 .ensures in
+    let b = c .before .before .positive2 .ensures in
+    let d = p .negative .ensures in
+    let e = p .before .before .positive .ensures in
+    fits (search sizes depth 20) tt
+
+returns : tie.Need-returns
+returns c =
+    let p = c .before .before .before .before in
+    let s = p .before .before .before .before in
+    let q = s .before .before .before in
+    let f = q .args .fluxes .now in
+    let h = q .pre .1 .1 in
+    let n = elements (q .args .shape) in
+    let a = c .negative2 .ensures in
+    let b = c .before .before .positive2 .ensures in
+    let d = p .negative .ensures in
+    let e = p .before .before .positive .ensures in
+    let pe = back-is w64 (at f (q .args .e)) (h .all _) tt in
+    let pw = back-is w64 (at f (s .before .west .result)) (h .all _) tt ∙ ap (at f) (s .before .west .ensures) in
+    let pn = back-is w64 (at f (n + q .args .e)) (h .all _) tt in
+    let ps = back-is w64 (at f (n + s .south .result)) (h .all _) tt ∙ ap (λ x. at f (n + x)) (s .south .ensures) in
+    are-eq (added _ _ _ _ _ _ _ _ e d b a) (λ i. pos (positive (pe i) + negative (pw i) + (positive (pn i) + negative (ps i))))
+
+pub outflow-spec : {M : Type 1} → statement M
+outflow-spec = tie.close (tie.spec mul-n west-requires south-requires add-south add-north mul-positive shared-slice-copy-out-positive positive-requires mul-negative shared-slice-copy-out-negative negative-requires add-along mul-positive-2 shared-slice-copy-out-positive-2 positive-requires-2 mul-negative-2 shared-slice-copy-out-negative-2 negative-requires-2 add-across add-result returns)

@@ -1,0 +1,26 @@
+use native.Mathlib.Omega.{arith}
+use borrow.Author.Needs.{needs}
+use Rattle.step_grid.proofs.Laws.{elements-le, north-next, north-last}
+use Rattle.step_grid.proofs.north.Statement.{statement}
+use Rattle.step_grid.proofs.north.Tie as tie
+
+mul-n : tie.Need-mul-n
+mul-n c = record { fits = omega (arith, elements-le (c .before .args .shape) (c .before .pre .small-grid)) }
+
+add-if1 : tie.Need-add-if1
+add-if1 c = let b = c .before in record { fits = omega (arith, b .pre .inside, elements-le (b .args .shape) (b .pre .small-grid), b .pre .small-grid .nx-small) }
+
+add-result : tie.Need-add-result
+add-result c = let b = c .before .before in record { fits = omega (arith, b .pre .inside, elements-le (b .args .shape) (b .pre .small-grid), b .pre .small-grid .nx-small) }
+
+add-result-2 : tie.Need-add-result-2
+add-result-2 c = let b = c .before .before in record { fits = omega (arith, b .pre .inside, elements-le (b .args .shape) (b .pre .small-grid), b .pre .small-grid .nx-small) }
+
+returns : tie.Need-returns
+returns c = let b = c .before .before in north-next (b .args .shape) (b .args .e) (b .pre) (c .if1 .taken)
+
+returns-2 : tie.Need-returns-2
+returns-2 c = let b = c .before .before in north-last (b .args .shape) (b .args .e) (b .pre) (c .if1 .left)
+
+pub north-spec : {M : Type 1} → statement M
+north-spec = tie.close (tie.spec mul-n add-if1 add-result add-result-2 (λ c. search needs) returns returns-2)

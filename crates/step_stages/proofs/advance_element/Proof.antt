@@ -1,0 +1,125 @@
+use mathlib.Core.Path.{_≡_, sym, ap, ap₂, subst, _∙_}
+use Prim.Native.Nat.{_≤_, _-_, _+_, _*_}
+use borrow.Author.Needs.{needs}
+use native.Mathlib.Omega.{arith}
+use lib.IntN.{ℤ, _+ℤ_, _*ℤ_}
+use lib.ListN.{length, length-set}
+use mir.Syntax.{w64}
+use mir.Val.{toZ, ofZ}
+use Rattle.whole.specs.Table.{at}
+use Rattle.whole.specs.Bound.{Within, floorDiv}
+use Rattle.whole.specs.Written.{Written}
+use Rattle.whole.proofs.WrittenLaws.{written-none, written-next}
+use Rattle.whole.proofs.Sizes.{sizes, exacts, fits, within, exact, are-eq, are-at, peak-at}
+use Rattle.step_stages.specs.Advance.{divisor, elementSums, elementValues}
+use Rattle.step_stages.proofs.Laws.{factors, factor-is}
+use Rattle.step_stages.proofs.advance_element.Statement.{statement}
+use Rattle.step_stages.proofs.advance_element.Tie as tie
+
+abbrev Inv-loop : tie.InvT-loop
+Inv-loop work₀ from to sums stage times t k₀ work k = (k ≤ 9) × Written to sums k (elementValues stage from sums t work₀) (elementSums stage sums t work₀) work₀ work
+
+abbrev μ-loop : tie.MeasureT-loop
+μ-loop work₀ from to sums stage times t k₀ work k = 9 - k
+
+loop-holds : tie.Need-loop-holds Inv-loop μ-loop
+loop-holds c = (omega arith, written-none _ _ _ _ _)
+
+-- what a turn reads is as it was: the stored value, and the sum
+value-is : (c : tie.In-loop Inv-loop μ-loop) → at (c .before .loop .work) (c .before .before .args .from + c .before .loop .k) ≡ at (c .before .before .args .work .now) (c .before .before .args .from + c .before .loop .k)
+value-is c = let h = c .before .before .pre .0 in c .before .loop .inv .1 .kept _ (λ p q. omega (arith, h .before)) (λ p q. omega (arith, h .before, h .between))
+
+value-small : (c : tie.In-loop Inv-loop μ-loop) → Within 100000000 (at (c .before .loop .work) (c .before .before .args .from + c .before .loop .k))
+value-small c = subst (λ (z : ℤ). Within 100000000 z) (sym (value-is c)) (c .before .before .pre .0 .values (c .before .loop .k) (omega arith))
+
+sum-is : (c : tie.In-loop Inv-loop μ-loop) → at (c .before .loop .work) (c .before .before .args .sums + c .before .loop .k) ≡ at (c .before .before .args .work .now) (c .before .before .args .sums + c .before .loop .k)
+sum-is c = let h = c .before .before .pre .0 in c .before .loop .inv .1 .kept _ (λ p q. omega (arith, h .between)) (λ p q. omega arith)
+
+sum-small : (c : tie.In-loop Inv-loop μ-loop) → Within 6300000000 (at (c .before .loop .work) (c .before .before .args .sums + c .before .loop .k))
+sum-small c = subst (λ (z : ℤ). Within 6300000000 z) (sym (sum-is c)) (c .before .before .pre .0 .small (c .before .loop .k) (omega arith))
+
+room : (c : tie.In-loop Inv-loop μ-loop) → (c .before .before .args .sums + 9 ≤ length (c .before .loop .work)) × (c .before .before .args .to + 9 ≤ c .before .before .args .sums) × (c .before .before .args .from + 9 ≤ c .before .before .args .to)
+room c = let h = c .before .before .pre .0 in (omega (arith, h .room, c .before .loop .inv .1 .long), h .between, h .before)
+
+add-value : tie.Need-add-value Inv-loop μ-loop
+add-value c = record { fits = omega (arith, room c) }
+
+mul-value : tie.Need-mul-value Inv-loop μ-loop
+mul-value c = record { fits = omega (arith, room c) }
+
+slice-copy-out-value : tie.Need-slice-copy-out-value Inv-loop μ-loop
+slice-copy-out-value c = omega (arith, room c)
+
+add-sum : tie.Need-add-sum Inv-loop μ-loop
+add-sum c = record { fits = omega (arith, room (c .before)) }
+
+mul-sum : tie.Need-mul-sum Inv-loop μ-loop
+mul-sum c = record { fits = omega (arith, room (c .before)) }
+
+slice-copy-out-sum : tie.Need-slice-copy-out-sum Inv-loop μ-loop
+slice-copy-out-sum c = omega (arith, room (c .before))
+
+-- the factor is at most 4
+times-small : (c : tie.In-loop Inv-loop μ-loop) → Within 6 (c .before .before .args .times)
+times-small c = let b = c .before .before in subst (λ (z : ℤ). Within 6 z) (factor-is (b .args .stage) ∙ sym (b .pre .1 .0)) (record { within = peak-at factors (b .args .stage) })
+
+mul-sum-3 : tie.Need-mul-sum-3 Inv-loop μ-loop
+mul-sum-3 c = let i = c .before .before .before in let h = i .before .before .pre .1 .1 in let f = times-small i in fits (search sizes depth 20) tt
+
+add-sum-2 : tie.Need-add-sum-2 Inv-loop μ-loop
+add-sum-2 c = let i = c .before .before .before in let h = i .before .before .pre .1 .1 in let f = times-small i in let s = sum-small i in fits (search sizes depth 20) tt
+
+divided-requires : tie.Need-divided-requires Inv-loop μ-loop
+divided-requires c κs =
+    let b = c .before .before .before in
+    let h = b .before .before .pre .1 .1 in
+    let f = times-small b in
+    let s = sum-small b in
+    (b .before .before .pre .0 .stage, within (search sizes depth 20) tt)
+
+add-work : tie.Need-add-work Inv-loop μ-loop
+add-work c =
+    let b = c .before .before .before .before in
+    let v = value-small b in
+    let d = c .divided .ensures in
+    fits (search sizes depth 20) tt
+
+add-t13 : tie.Need-add-t13 Inv-loop μ-loop
+add-t13 c = record { fits = omega (arith, room (c .before .before .before .before)) }
+
+mul-t17 : tie.Need-mul-t17 Inv-loop μ-loop
+mul-t17 c = record { fits = omega (arith, room (c .before .before .before .before)) }
+
+slice-set-from-work : tie.Need-slice-set-from-work Inv-loop μ-loop
+slice-set-from-work c = rw length-set (omega (arith, room (c .before .before .before .before)))
+
+loop-again : tie.Need-loop-again Inv-loop μ-loop
+loop-again c =
+    let b = c .before .before .before .before in
+    let a = b .before .before .args in
+    let l = b .before .loop in
+    let h = b .before .before .pre .1 .1 in
+    let f = times-small b in
+    let m = a .stage in
+    let w = a .work .now in
+    let k = l .k in
+    let s = sum-small b in
+    let v = value-small b in
+    let t = a .t .now in
+    let sum = elementSums m (a .sums) t w k in
+    let sum-of = ap₂ (λ x y. x +ℤ y *ℤ at t k) (sum-is b) (b .before .before .pre .1 .0) in
+    let d = are-eq (are-at {z = toZ w64 (ofZ w64 (toZ w64 (ofZ w64 (at (l .work) (a .sums + k))) +ℤ toZ w64 (ofZ w64 (toZ w64 (ofZ w64 (a .times)) *ℤ toZ w64 (ofZ w64 (at t k))))))} (λ z. floorDiv z (divisor m)) (at (l .work) (a .sums + k) +ℤ a .times *ℤ at t k) (c .divided .ensures) (search exacts depth 20) tt) (ap (λ z. floorDiv z (divisor m)) sum-of) in (
+      omega arith,
+      written-next (elementValues m (a .from) (a .sums) t w) (elementSums m (a .sums) t w) _ _ (omega (arith, room b)) (omega (arith, b .before .before .pre .0 .room)) (l .inv .1)
+          (exact (search exacts depth 20) tt ∙ sum-of)
+          (exact (search exacts depth 20) tt ∙ ap (λ x. x +ℤ floorDiv sum (divisor m)) (value-is b)),
+    )
+
+same-length : tie.Need-same-length Inv-loop μ-loop
+same-length c = c .before .loop .inv .1 .long
+
+returns : tie.Need-returns Inv-loop μ-loop
+returns c = let e : c .before .loop .k ≡ 9 = omega arith in rw e at (c .before .loop .inv .1)
+
+pub advance-element-spec : {M : Type 1} → statement M
+advance-element-spec = tie.close (tie.spec Inv-loop μ-loop loop-holds add-value mul-value slice-copy-out-value add-sum mul-sum slice-copy-out-sum (λ c. search needs) (λ c. search needs) mul-sum-3 add-sum-2 (λ c. search needs) (λ c. search needs) (λ c. search needs) divided-requires add-work add-t13 mul-t17 slice-set-from-work (λ c. search needs) (λ c. search needs) loop-again same-length returns)

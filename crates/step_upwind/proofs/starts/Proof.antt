@@ -1,0 +1,76 @@
+use mathlib.Core.Path.{_≡_, refl, sym, ap, subst, _∙_}
+use mathlib.Core.List.{List, [], _∷_, _++_, append-nil}
+use Prim.Native.Nat.{ℕ, _≤_, _<_, _-_, _+_}
+use borrow.Author.Needs.{needs}
+use native.Mathlib.Omega.{arith}
+use lib.ListN.{length, getD, drop, length-set}
+use mir.Facts.{toZ-ofZ}
+use Rattle.whole.specs.Table.{table, at}
+use Rattle.whole.proofs.TableLaws.{fill-next}
+use Rattle.step_upwind.specs.Upwind.{behinds, aheads, lasts, upwindStart}
+use Rattle.step_grid.proofs.Laws.{elements-le}
+use Rattle.step_upwind.proofs.Laws.{behind-inside, ahead-inside, last-lt}
+use Rattle.step_upwind.proofs.starts.Statement.{statement}
+use Rattle.step_upwind.proofs.starts.Tie as tie
+
+abbrev Inv-loop : tie.InvT-loop
+Inv-loop c e west east south north behind ahead s₀ side₀ s side = (side ≤ 4) × (length s ≡ 4) × (s ≡ table side (λ i. upwindStart (at c i) (getD behind i 0) (getD ahead i 0) (getD lasts i 0)) ++ drop side s₀)
+
+abbrev μ-loop : tie.MeasureT-loop
+μ-loop c e west east south north behind ahead s₀ side₀ s side = 4 - side
+
+west-requires : tie.Need-west-requires Inv-loop μ-loop
+west-requires c κs = c .pre
+
+east-requires : tie.Need-east-requires Inv-loop μ-loop
+east-requires c κs = c .before .pre
+
+south-requires : tie.Need-south-requires Inv-loop μ-loop
+south-requires c κs = c .before .before .pre
+
+north-requires : tie.Need-north-requires Inv-loop μ-loop
+north-requires c κs = c .before .before .before .pre
+
+loop-holds : tie.Need-loop-holds Inv-loop μ-loop
+unfolding table
+loop-holds c = (omega arith, refl, refl)
+
+-- the arrays of the elements behind and ahead
+behind-is : (c : tie.After-north Inv-loop μ-loop) → (c .before .before .before .west .result ∷ c .before .before .before .before .args .e ∷ c .before .south .result ∷ c .before .before .before .before .args .e ∷ []) ≡ behinds (c .before .before .before .before .args .shape) (c .before .before .before .before .args .e)
+behind-is c = λ i. c .before .before .before .west .ensures i ∷ c .before .before .before .before .args .e ∷ c .before .south .ensures i ∷ c .before .before .before .before .args .e ∷ []
+
+ahead-is : (c : tie.After-north Inv-loop μ-loop) → (c .before .before .before .before .args .e ∷ c .before .before .east .result ∷ c .before .before .before .before .args .e ∷ c .north .result ∷ []) ≡ aheads (c .before .before .before .before .args .shape) (c .before .before .before .before .args .e)
+ahead-is c = λ i. c .before .before .before .before .args .e ∷ c .before .before .east .ensures i ∷ c .before .before .before .before .args .e ∷ c .north .ensures i ∷ []
+
+upwind-start-requires : tie.Need-upwind-start-requires Inv-loop μ-loop
+upwind-start-requires c κs =
+    let n = c .before .before .before in
+    let b = n .before .before .before .before in
+    let s = c .before .before .loop .side in
+    let small = elements-le (b .args .shape) (b .pre .small-grid) in (
+      subst (λ (l : List ℕ). getD l s 0 < 4096) (sym (behind-is n)) (omega (arith, small, behind-inside (b .args .shape) (b .args .e) (b .pre) s (omega arith))),
+      (
+        subst (λ (l : List ℕ). getD l s 0 < 4096) (sym (ahead-is n)) (omega (arith, small, ahead-inside (b .args .shape) (b .args .e) (b .pre) s (omega arith))),
+        last-lt s,
+      ),
+    )
+
+loop-again : tie.Need-loop-again Inv-loop μ-loop
+loop-again c =
+    let l = c .before .before .before .loop in
+    let n = c .before .before .before .before in
+    let a = n .before .before .before .before .args in
+    let s = l .side in
+    let behind : List ℕ = n .before .before .before .west .result ∷ a .e ∷ n .before .south .result ∷ a .e ∷ [] in
+    let ahead : List ℕ = a .e ∷ n .before .before .east .result ∷ a .e ∷ n .north .result ∷ [] in
+    (omega arith, rw length-set (l .inv .1), fill-next (l .side) _ _ _ _ (l .inv .2) (omega arith) (c .upwind-start .ensures ∙ ap (λ z. upwindStart z (getD behind s 0) (getD ahead s 0) (getD lasts s 0)) (toZ-ofZ (record { sfits = c .before .upwind-start-arg .given }))))
+
+returns : tie.Need-returns Inv-loop μ-loop
+returns c =
+    let n = c .before .before in
+    let a = n .before .before .before .before .args in
+    let e : c .before .loop .side ≡ 4 = omega arith in
+    (rw e at (c .before .loop .inv .2)) ∙ append-nil _ ∙ (λ i. table 4 (λ s. upwindStart (at (a .c .now) s) (getD (behind-is n i) s 0) (getD (ahead-is n i) s 0) (getD lasts s 0)))
+
+pub starts-spec : {M : Type 1} → statement M
+starts-spec = tie.close (tie.spec Inv-loop μ-loop west-requires east-requires south-requires north-requires loop-holds (λ c. search needs) (λ c. search needs) (λ c. search needs) (λ c. search needs) (λ c. search needs) (λ c. search needs) (λ c. search needs) (λ c. search needs) upwind-start-requires (λ c. search needs) (λ c. search needs) (λ c. search needs) (λ c. search needs) loop-again returns)
