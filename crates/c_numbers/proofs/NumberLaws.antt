@@ -14,8 +14,8 @@ use Rattle.rules.specs.declared.Shape.{Shape}
 use Rattle.rules.specs.declared.Refusal.{Refusal}
 use Rattle.rules.specs.declared.Refusal.the-variants.{NoFieldFile, BadShape, BadOffsets, ShortBuffer, WindOutOfRange, UnsoundTracer, NoSuchTracer, NoSuchElement, TotalAboveLimit, MassTooSmall}
 use Rattle.rules.specs.Answers.{Answer, accepted, refused, number}
-use Rattle.field_layout.specs.Places.{Sized}
-use Rattle.c_numbers.specs.Numbers.{faceOf, numberOr, Small, shapeNumber, shapeOr, SmallShape}
+use Rattle.rules.specs.Field.{Admitted}
+use Rattle.c_numbers.specs.Numbers.{faceOf, numberOr, Small, shapeNumber, shapeOr, AdmittedShape}
 
 -- ---- an answered number, and a refusal's, as signed numbers
 pub number-is : (a : Answer ℕ) (n : ℕ) → Small a → a ≡ accepted n → Are 100000000 (toZ w64 n) (numberOr a)
@@ -64,10 +64,10 @@ unfolding shapeOr
 shape-refusal-is a z r = refusal-of shapeOr a z r refl
 
 -- ---- an answered shape
-pub shape-le : (g : Shape) → Sized g → shapeNumber g ≤ 540736
-shape-le g h = omega (arith, h .nx, h .ny, h .tracers)
+pub shape-le : (g : Shape) → Admitted g → shapeNumber g ≤ 540736
+shape-le g h = omega (arith, h .nx-small, h .ny-small, h .tracers-small)
 
-pub shape-is : (a : Answer Shape) (g : Shape) → SmallShape a → a ≡ accepted g → Are 100000000 (toZ w64 (shapeNumber g)) (shapeOr a)
+pub shape-is : (a : Answer Shape) (g : Shape) → AdmittedShape a → a ≡ accepted g → Are 100000000 (toZ w64 (shapeNumber g)) (shapeOr a)
 unfolding shapeOr
 shape-is a g h e =
     let small = shape-le g (h .small g e) in

@@ -6,7 +6,7 @@ use Rattle.rules.specs.declared.Shape.{Shape}
 use Rattle.rules.specs.declared.Face.{Face}
 use Rattle.rules.specs.declared.Way.the-variants.{East, North}
 use Rattle.rules.specs.Answers.{Answer, accepted, refused}
-use Rattle.field_layout.specs.Places.{Sized}
+use Rattle.rules.specs.Field.{Admitted}
 
 -- a shape from its three numbers
 abbrev pub shapeOf : ℕ → ℕ → ℕ → Shape
@@ -37,9 +37,9 @@ unfoldable pub shapeOr : Answer Shape → ℤ
 shapeOr (accepted g) = pos (shapeNumber g)
 shapeOr (refused n) = negℤ (pos n)
 
--- an answered shape is no larger than an admitted one
-pub record SmallShape (a : Answer Shape) : Type 0 where
-  pub small : (g : Shape) → a ≡ accepted g → Sized g
+-- an answered shape is an admitted one
+pub record AdmittedShape (a : Answer Shape) : Type 0 where
+  pub small : (g : Shape) → a ≡ accepted g → Admitted g
 
 -- an answered number is at most the limit
 pub record Small (a : Answer ℕ) : Type 0 where

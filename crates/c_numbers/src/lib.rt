@@ -3,7 +3,7 @@ ghost use mathlib.Core.Path.{_≡_};
 ghost use lib.IntN.{pos, negℤ};
 ghost use Rattle.whole.specs.Bound.{Are};
 ghost use Rattle.rules.specs.Answers.{number, outcome, reading, fileAnswer};
-ghost use Rattle.c_numbers.specs.Numbers.{faceOf, code, numberOr, Small, shapeOr, SmallShape};
+ghost use Rattle.c_numbers.specs.Numbers.{faceOf, code, numberOr, Small, shapeOr, AdmittedShape};
 use rules::Face;
 use rules::FileRead;
 use rules::Outcome;
@@ -39,9 +39,9 @@ pub fn number_or(answer: Reading) -> i64
     }
 }
 
-// The shape that is answered, as nx + 256 ny + 65536 K, or the refusal's number negated. A leaf: the shape is no larger than an admitted one.
+// The shape that is answered, as nx + 256 ny + 65536 K, or the refusal's number negated. A leaf: the shape is admitted.
 pub fn shape_or(answer: FileRead) -> i64
-    requires { ⌜ SmallShape (fileAnswer answer) ⌝ }
+    requires { ⌜ AdmittedShape (fileAnswer answer) ⌝ }
     ensures { λ r. ⌜ Are 100000000 r (shapeOr (fileAnswer answer)) ⌝ }
 {
     match answer {

@@ -11,15 +11,15 @@ use lib.ListN.{length}
 use Rattle.whole.proofs.Cases.{both-yes}
 use Rattle.rules.specs.declared.Shape.{Shape}
 use Rattle.rules.specs.Answers.{Answer, accepted, refused, Check, check, answer, plain}
-use Rattle.rules.specs.Field.{quadratic, admitted, element, onGrid, fieldLength, part, withPart, mass, total, limit}
+use Rattle.rules.specs.Field.{quadratic, admitted, element, onGrid, fieldLength, part, withPart, mass, total, limit, Admitted}
 use Rattle.rules.specs.Calls.{Operation, emission, withdrawal, Lent, lentEnough, soundIfThere, checks, done, call, massReading, totalReading}
 use Rattle.field_layout.specs.Places.{Inside}
 use Rattle.field_search.specs.Search.{searched}
 use Rattle.rules.proofs.AnswerLaws.{answer-ind, prefix-refused, prefix-accepted, after-refused, after-accepted}
-use Rattle.rules.proofs.FieldLaws.{Ranges, ranges, total-small, sound-there}
+use Rattle.rules.proofs.FieldLaws.{total-small, sound-there}
 use Rattle.rules.proofs.PartLaws.{mass-le-total}
-use Rattle.field_layout.proofs.PlaceLaws.{sized}
 use Rattle.rules.proofs.GridLaws.{element-lt}
+use Rattle.rules.proofs.ShapeLaws.{ranges}
 
 and-true : (b : Bool) → (b && true) ≡ b
 and-true true = refl
@@ -35,7 +35,7 @@ module _ (g : Shape) (s : ℕ) (f : List ℕ) where
 
   -- what an accepted reading of the total has shown
   pub record Found (t : ℕ) : Type 0 where
-    pub shape : Ranges g
+    pub shape : Admitted g
     pub room : fieldLength quadratic g ≤ length f
     pub tracer : s < g .tracers
     pub sum : t ≡ total quadratic g p
@@ -105,7 +105,7 @@ module _ (g : Shape) (s i j : ℕ) (f : List ℕ) where
   inside t e o =
       let h = found g s f t e in
       let b = both-yes (ltb i (g .nx)) (ltb j (g .ny)) (rw o tt) in
-      record { sized = sized (h .shape); tracer = h .tracer; column = ltb→lt _ _ (b .0); row = ltb→lt _ _ (b .1) }
+      record { admits = (h .shape); tracer = h .tracer; column = ltb→lt _ _ (b .0); row = ltb→lt _ _ (b .1) }
 
   pub mass-refused : (n : ℕ) → totalReading quadratic g s f ≡ refused n → massReading quadratic g s i j f ≡ refused n
   mass-refused n e = mass-reply g s f i j ∙ first-refused g s f _ _ n e
@@ -143,7 +143,7 @@ module _ (g : Shape) (s i j : ℕ) (f : List ℕ) where
       let column = ltb→lt _ _ (b .0) in
       let row = ltb→lt _ _ (b .1) in
       record {
-        within = record { sized = sized (ranges g (c .0)); tracer = ltb→lt _ _ (c .1 .1 .1 .0); column = column; row = row };
+        within = record { admits = (ranges g (c .0)); tracer = ltb→lt _ _ (c .1 .1 .1 .0); column = column; row = row };
         room = leb→le _ _ (c .1 .0);
         is = sym q;
         small = omega (arith, total-small quadratic g (part quadratic g s f) (sound-there quadratic g (part quadratic g s f) (ltb s (g .tracers)) (c .1 .1 .1 .0) (c .1 .1 .0)), mass-le-total quadratic g (part quadratic g s f) (element g i j) (element-lt g i j column row));

@@ -17,19 +17,15 @@ use Rattle.rules.specs.Answers.{Answer, accepted, refused, answer, after, plain
 use Rattle.rules.specs.Field.{quadratic, admitted, elements, faces, onGrid, tracerLength, fieldLength, withPart, weighted, mass, total, limit}
 use Rattle.rules.specs.Grid.{faceIndex}
 use Rattle.rules.specs.Calls.{windInRange, windReply, windAfter, freshReply, freshField, freshWind, zeroField, zeroWind, load, loaded, loadedElement, loadedValue, lentEnough, checks, done, call}
-use Rattle.rules.proofs.FieldLaws.{ranges}
 use Rattle.rules.proofs.PartLaws.{mass-loaded, length-loaded}
-use Rattle.field_layout.specs.Places.{Sized, Inside}
-use Rattle.field_layout.proofs.PlaceLaws.{sized}
+use Rattle.rules.proofs.ShapeLaws.{admitted-is}
+use Rattle.field_layout.specs.Places.{Inside}
 
 module _ (g : Shape) where
-  pub sized-of : admitted g ≡ true → Sized g
-  sized-of e = sized (ranges g (subst T (sym e) tt))
-
   pub inside-of : (i j : ℕ) → admitted g ≡ true → onGrid g i j ≡ true → Inside g 0 i j
   inside-of i j a o =
       let t = both-yes (ltb i (g .nx)) (ltb j (g .ny)) (subst T (sym o) tt) in
-      record { sized = sized-of a; tracer = ranges g (subst T (sym a) tt) .tracers-above; column = ltb→lt _ _ (t .0); row = ltb→lt _ _ (t .1) }
+      record { admits = admitted-is g a; tracer = admitted-is g a .tracers-above; column = ltb→lt _ _ (t .0); row = ltb→lt _ _ (t .1) }
 
 -- ---- wind
 module _ (g : Shape) (f : Face) (w : List ℤ) where

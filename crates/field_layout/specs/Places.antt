@@ -1,17 +1,11 @@
--- A shape no larger than an admitted one, and where numbers stand.
-use Prim.Native.Nat.{ℕ, _+_, _*_, _≤_, _<_}
+-- An element of a tracer that is there, and where its numbers stand.
+use Prim.Native.Nat.{ℕ, _+_, _*_, _<_}
 use Rattle.rules.specs.declared.Shape.{Shape}
-use Rattle.rules.specs.Field.{quadratic, element, elementLength, tracerLength}
-
--- a shape whose numbers are not too large
-pub record Sized (g : Shape) : Type 0 where
-  pub nx : g .nx ≤ 64
-  pub ny : g .ny ≤ 64
-  pub tracers : g .tracers ≤ 8
+use Rattle.rules.specs.Field.{quadratic, element, elementLength, tracerLength, Admitted}
 
 -- element (i, j) of a tracer that is there
 pub record Inside (g : Shape) (s i j : ℕ) : Type 0 where
-  pub sized : Sized g
+  pub admits : Admitted g
   pub tracer : s < g .tracers
   pub column : i < g .nx
   pub row : j < g .ny

@@ -1,10 +1,10 @@
-// Shapes, and where the numbers of a shape stand in its buffers. All but the tests are leaves, for a shape no larger than an admitted one.
+// Shapes, and where the numbers of a shape stand in its buffers. All but the tests are leaves, for an admitted shape.
 ghost use mathlib.Core.Path.{_≡_};
 ghost use Prim.Native.Nat.{_*_, _+_, _<_};
-ghost use Rattle.rules.specs.Field.{quadratic, from1to, admitted, elements, faces, onGrid, tracerLength, fieldLength};
+ghost use Rattle.rules.specs.Field.{quadratic, from1to, admitted, elements, faces, onGrid, tracerLength, fieldLength, Admitted};
 ghost use Rattle.rules.specs.Grid.{faceIndex};
 ghost use Rattle.rules.specs.Calls.{windInRange};
-ghost use Rattle.field_layout.specs.Places.{Sized, Inside, elementStart};
+ghost use Rattle.field_layout.specs.Places.{Inside, elementStart};
 use rules::Face;
 use rules::Shape;
 use rules::Way;
@@ -51,7 +51,7 @@ pub fn wind_in_range(c: i16) -> bool
 
 // The elements of one tracer.
 pub fn elements(shape: Shape) -> usize
-    requires { ⌜ Sized shape ⌝ }
+    requires { ⌜ Admitted shape ⌝ }
     ensures { λ r. ⌜ r ≡ elements shape ⌝ }
 {
     shape.nx * shape.ny
@@ -59,7 +59,7 @@ pub fn elements(shape: Shape) -> usize
 
 // The faces: an east and a north one for each element.
 pub fn faces(shape: Shape) -> usize
-    requires { ⌜ Sized shape ⌝ }
+    requires { ⌜ Admitted shape ⌝ }
     ensures { λ r. ⌜ r ≡ faces shape ⌝ }
 {
     let n = elements(shape);
@@ -68,7 +68,7 @@ pub fn faces(shape: Shape) -> usize
 
 // The numbers of one tracer.
 pub fn tracer_length(shape: Shape) -> usize
-    requires { ⌜ Sized shape ⌝ }
+    requires { ⌜ Admitted shape ⌝ }
     ensures { λ r. ⌜ r ≡ tracerLength quadratic shape ⌝ }
 {
     elements(shape) * 10
@@ -76,7 +76,7 @@ pub fn tracer_length(shape: Shape) -> usize
 
 // The numbers of the field.
 pub fn field_length(shape: Shape) -> usize
-    requires { ⌜ Sized shape ⌝ }
+    requires { ⌜ Admitted shape ⌝ }
     ensures { λ r. ⌜ r ≡ fieldLength quadratic shape ⌝ }
 {
     shape.tracers * tracer_length(shape)
@@ -84,7 +84,7 @@ pub fn field_length(shape: Shape) -> usize
 
 // Where a tracer's part starts in the field.
 pub fn tracer_start(shape: Shape, tracer: usize) -> usize
-    requires { ⌜ Sized shape ⌝ }
+    requires { ⌜ Admitted shape ⌝ }
     requires { ⌜ tracer < shape .tracers ⌝ }
     ensures { λ r. ⌜ r ≡ tracer * tracerLength quadratic shape ⌝ }
 {

@@ -3,9 +3,8 @@ ghost use mathlib.Core.Path.{_≡_};
 ghost use Prim.Native.Nat.{_≤_};
 ghost use lib.ListN.{length};
 ghost use Rattle.rules.specs.Answers.{reading};
-ghost use Rattle.rules.specs.Field.{quadratic, faces, tracerLength};
+ghost use Rattle.rules.specs.Field.{quadratic, faces, tracerLength, Admitted};
 ghost use Rattle.rules.specs.Calls.{windSound};
-ghost use Rattle.field_layout.specs.Places.{Sized};
 ghost use Rattle.field_search.specs.Search.{searched};
 use field_elements::element::WEIGHTS;
 use rules::Reading;
@@ -14,7 +13,7 @@ use rules::Shape;
 
 // A leaf: whether every stored wind is in its range.
 pub fn winds_sound(wind: &[i16], shape: Shape) -> bool
-    requires { ⌜ Sized shape ⌝ }
+    requires { ⌜ Admitted shape ⌝ }
     requires { ⌜ faces shape ≤ length (now wind) ⌝ }
     ensures { λ r. ⌜ r ≡ windSound shape (now (wind .entry)) ⌝ }
 {
@@ -32,7 +31,7 @@ pub const LIMIT: u64 = 100_000_000;
 
 // A leaf: the total of a tracer's part; refusal 6 where a remainder is above 35 or the total above the limit.
 pub fn tracer_total(part: &[u32], shape: Shape) -> Reading
-    requires { ⌜ Sized shape ⌝ }
+    requires { ⌜ Admitted shape ⌝ }
     requires { ⌜ length (now part) ≡ tracerLength quadratic shape ⌝ }
     ensures { λ r. ⌜ reading r ≡ searched shape (now (part .entry)) ⌝ }
 {

@@ -5,10 +5,10 @@ use native.Mathlib.Nat.{mul-le-mul, mul-le-mul-right}
 use native.Mathlib.Omega.{arith}
 use borrow.Author.Tests.{ne-eqb}
 use Rattle.rules.specs.declared.Shape.{Shape}
-use Rattle.rules.specs.Field.{Kind, quadratic, faces, tracerLength}
+use Rattle.rules.specs.Field.{Kind, quadratic, faces, tracerLength, Admitted}
 use Rattle.rules.specs.FieldFile.{sectionStart, tableStart, fileLength}
-use Rattle.field_layout.specs.Places.{Sized}
-use Rattle.field_layout.proofs.PlaceLaws.{elements-le, tracer-le, row-more}
+use Rattle.rules.proofs.ShapeLaws.{elements-le, row-more}
+use Rattle.field_layout.proofs.PlaceLaws.{tracer-le}
 
 -- ---- any kind of element
 module _ (κ : Kind) (g : Shape) where
@@ -40,16 +40,16 @@ module _ (g : Shape) where
       rw e (omega (arith, tracer-start quadratic g (s + 1), tracer-start quadratic g s, row-more (4 * tracerLength quadratic g) s))
 
   -- k tracers take at most this much
-  pub tracers-le : (k : ℕ) → Sized g → k ≤ 8 → k * (4 * tracerLength quadratic g) ≤ 1310720
+  pub tracers-le : (k : ℕ) → Admitted g → k ≤ 8 → k * (4 * tracerLength quadratic g) ≤ 1310720
   tracers-le k h l = let w : 4 * tracerLength quadratic g ≤ 163840 = omega (arith, tracer-le g h) in mul-le-mul l w
 
   -- an offset fits a u32
-  pub section-le : (i : ℕ) → Sized g → i ≤ g .tracers + 1 → sectionStart quadratic g i ≤ 1327104
+  pub section-le : (i : ℕ) → Admitted g → i ≤ g .tracers + 1 → sectionStart quadratic g i ≤ 1327104
   section-le zero h l = omega (arith, wind-start quadratic g)
-  section-le (suc i) h l = omega (arith, start-of quadratic g (suc i) (omega arith), tracers-le (suc i - 1) h (omega (arith, h .tracers)), elements-le g h)
+  section-le (suc i) h l = omega (arith, start-of quadratic g (suc i) (omega arith), tracers-le (suc i - 1) h (omega (arith, h .tracers-small)), elements-le g h)
 
-  pub length-le : Sized g → fileLength quadratic g ≤ 1327152
-  length-le h = omega (arith, length-is quadratic g, table-is quadratic g, section-le (g .tracers + 1) h (omega arith), h .tracers)
+  pub length-le : Admitted g → fileLength quadratic g ≤ 1327152
+  length-le h = omega (arith, length-is quadratic g, table-is quadratic g, section-le (g .tracers + 1) h (omega arith), h .tracers-small)
 
   -- a section ends within the file
   pub start-in : (i : ℕ) → i ≤ g .tracers → sectionStart quadratic g (i + 1) ≤ fileLength quadratic g

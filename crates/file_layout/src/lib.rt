@@ -1,17 +1,16 @@
-// Where the sections of a file stand, for a shape no larger than an admitted one, and the mark that it ends with. Leaves.
+// Where the sections of a file stand, for an admitted shape, and the mark that it ends with. Leaves.
 ghost use mathlib.Core.Path.{_≡_};
 ghost use Prim.Native.Nat.{_+_, _≤_};
 ghost use lib.Dec.{eqb};
 ghost use lib.ListN.{length, getD};
 ghost use Rattle.whole.specs.Sum.{all};
-ghost use Rattle.rules.specs.Field.{quadratic};
+ghost use Rattle.rules.specs.Field.{quadratic, Admitted};
 ghost use Rattle.rules.specs.FieldFile.{byteAt, mark, sectionStart, tableStart, fileLength};
-ghost use Rattle.field_layout.specs.Places.{Sized};
 use rules::Shape;
 
 // Where section i starts: the wind's is section 0, tracer s's is section s + 1, and the table comes after the last.
 pub fn section_start(shape: Shape, i: usize) -> usize
-    requires { ⌜ Sized shape ⌝ }
+    requires { ⌜ Admitted shape ⌝ }
     requires { ⌜ i ≤ shape .tracers + 1 ⌝ }
     ensures { λ r. ⌜ r ≡ sectionStart quadratic shape i ⌝ }
 {
@@ -23,7 +22,7 @@ pub fn section_start(shape: Shape, i: usize) -> usize
 
 // Where the table of offsets starts.
 pub fn table_start(shape: Shape) -> usize
-    requires { ⌜ Sized shape ⌝ }
+    requires { ⌜ Admitted shape ⌝ }
     ensures { λ r. ⌜ r ≡ tableStart quadratic shape ⌝ }
 {
     section_start(shape, shape.tracers + 1)
@@ -31,7 +30,7 @@ pub fn table_start(shape: Shape) -> usize
 
 // The length of a file in bytes.
 pub fn file_length(shape: Shape) -> usize
-    requires { ⌜ Sized shape ⌝ }
+    requires { ⌜ Admitted shape ⌝ }
     ensures { λ r. ⌜ r ≡ fileLength quadratic shape ⌝ }
 {
     table_start(shape) + 4 * (shape.tracers + 1) + 12

@@ -12,13 +12,11 @@ use Rattle.whole.specs.Table.{overwrite}
 use Rattle.whole.proofs.Cases.{both-yes}
 use Rattle.rules.specs.declared.Shape.{Shape}
 use Rattle.rules.specs.Answers.{Answer, accepted, refused, answer}
-use Rattle.rules.specs.Field.{quadratic, faces, fieldLength}
+use Rattle.rules.specs.Field.{quadratic, faces, fieldLength, Admitted}
 use Rattle.rules.specs.Calls.{windSound}
 use Rattle.rules.specs.FieldFile.{fileLength, tailShape, offsetsRight, fileWind, fileField, fieldSound, readReply, readField, readWind}
 use Rattle.rules.proofs.AnswerLaws.{answer-ind, prefix-refused, prefix-accepted, after-refused, after-accepted}
-use Rattle.rules.proofs.FieldLaws.{ranges}
-use Rattle.field_layout.specs.Places.{Sized}
-use Rattle.field_layout.proofs.PlaceLaws.{sized}
+use Rattle.rules.proofs.ShapeLaws.{ranges}
 use Rattle.file_reading.specs.Reading.{tailChecks, tailReply, shapeChecks, shapeReply}
 
 -- ---- 3 to 6
@@ -71,13 +69,13 @@ module _ (g : Shape) (file : List ℕ) (field wind : ℕ) where
 -- ---- what a tail that gives a shape has shown
 pub record Given (file : List ℕ) (g : Shape) : Type 0 where
   pub same : tailShape file ≡ g
-  pub sizes : Sized g
+  pub sizes : Admitted g
 
 pub given : (file : List ℕ) (g : Shape) → tailReply file ≡ accepted g → Given file g
 unfolding tailReply
 given file g = answer-ind (λ a. a ≡ accepted g → Given file g) (tailChecks file) (tailShape file)
     (λ n e. let z : _≡_ {A = ℕ} 0 1 = cc in absurd (omega arith))
-    (λ c e. let q : tailShape file ≡ g = cc in record { same = q; sizes = subst Sized q (sized (ranges (tailShape file) (c .1 .0))) })
+    (λ c e. let q : tailShape file ≡ g = cc in record { same = q; sizes = subst Admitted q ((ranges (tailShape file) (c .1 .0))) })
 
 -- ---- the call
 module _ (file field : List ℕ) (wind : List ℤ) where

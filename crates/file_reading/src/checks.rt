@@ -2,9 +2,8 @@
 ghost use mathlib.Core.Path.{_≡_};
 ghost use lib.ListN.{length};
 ghost use Rattle.rules.specs.Answers.{outcome};
-ghost use Rattle.rules.specs.Field.{quadratic};
+ghost use Rattle.rules.specs.Field.{quadratic, Admitted};
 ghost use Rattle.rules.specs.FieldFile.{fileLength, offsetsRight, fileField, fieldSound};
-ghost use Rattle.field_layout.specs.Places.{Sized};
 ghost use Rattle.file_reading.specs.Reading.{shapeReply};
 use rules::Outcome;
 use rules::Refusal;
@@ -12,7 +11,7 @@ use rules::Shape;
 
 // Whether length and offsets of the file are what the shape gives.
 fn offsets_right(file: &[u8], shape: Shape) -> bool
-    requires { ⌜ Sized shape ⌝ }
+    requires { ⌜ Admitted shape ⌝ }
     ensures { λ r. ⌜ r ≡ offsetsRight quadratic shape (now (file .entry)) ⌝ }
 {
     let n = file.len();
@@ -36,7 +35,7 @@ fn offsets_right(file: &[u8], shape: Shape) -> bool
 
 // Whether every tracer's section is sound.
 fn tracers_sound(file: &[u8], shape: Shape) -> bool
-    requires { ⌜ Sized shape ⌝ }
+    requires { ⌜ Admitted shape ⌝ }
     requires { ⌜ length (now file) ≡ fileLength quadratic shape ⌝ }
     ensures { λ r. ⌜ r ≡ fieldSound quadratic shape (fileField quadratic shape (now (file .entry))) ⌝ }
 {
@@ -53,7 +52,7 @@ fn tracers_sound(file: &[u8], shape: Shape) -> bool
 
 // The checks 3 to 6, for buffers of these lengths.
 pub(crate) fn check(file: &[u8], field: usize, wind: usize, shape: Shape) -> Outcome
-    requires { ⌜ Sized shape ⌝ }
+    requires { ⌜ Admitted shape ⌝ }
     ensures { λ r. ⌜ outcome r ≡ shapeReply shape (now (file .entry)) field wind ⌝ }
 {
     if !offsets_right(file, shape) {

@@ -5,9 +5,8 @@ ghost use Prim.Native.Nat.{_≤_};
 ghost use lib.ListN.{length};
 ghost use Rattle.whole.specs.Table.{overwrite};
 ghost use Rattle.rules.specs.Answers.{fileAnswer};
-ghost use Rattle.rules.specs.Field.{quadratic, faces, fieldLength};
+ghost use Rattle.rules.specs.Field.{quadratic, faces, fieldLength, Admitted};
 ghost use Rattle.rules.specs.FieldFile.{fileLength, fileWind, fileField, readReply, readField, readWind};
-ghost use Rattle.field_layout.specs.Places.{Sized};
 ghost use Rattle.file_reading.specs.Reading.{tailAnswer};
 use rules::FileRead;
 use rules::Outcome;
@@ -29,7 +28,7 @@ fn answer_of(tail: Tail) -> FileRead
 
 // Reads the wind section.
 fn read_wind(file: &[u8], wind: &mut [i16], shape: Shape)
-    requires { ⌜ Sized shape ⌝ }
+    requires { ⌜ Admitted shape ⌝ }
     requires { ⌜ length (now file) ≡ fileLength quadratic shape ⌝ }
     requires { ⌜ faces shape ≤ length (now wind) ⌝ }
     ensures { λ _. ⌜ now (wind .exit) ≡ overwrite 0 (fileWind shape (now (file .entry))) (now (wind .entry)) ⌝ }
@@ -41,7 +40,7 @@ fn read_wind(file: &[u8], wind: &mut [i16], shape: Shape)
 
 // Reads every tracer's section into its part of the field.
 fn read_tracers(file: &[u8], field: &mut [u32], shape: Shape)
-    requires { ⌜ Sized shape ⌝ }
+    requires { ⌜ Admitted shape ⌝ }
     requires { ⌜ length (now file) ≡ fileLength quadratic shape ⌝ }
     requires { ⌜ fieldLength quadratic shape ≤ length (now field) ⌝ }
     ensures { λ _. ⌜ now (field .exit) ≡ overwrite 0 (fileField quadratic shape (now (file .entry))) (now (field .entry)) ⌝ }

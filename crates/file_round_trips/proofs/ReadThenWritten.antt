@@ -18,6 +18,7 @@ use Rattle.rules.specs.Answers.{accepted}
 use Rattle.rules.specs.Field.{Kind, faces, fieldLength}
 use Rattle.rules.specs.Calls.{windAt}
 use Rattle.rules.specs.FieldFile.{byteAt, bytes32, number32, bytes16, number16, sectionStart, tableStart, fileLength, mark, tailShape, tailRight, fileWind, offsetsRight, fileField, readReply, writeReply, writeFile}
+use Rattle.rules.proofs.ShapeLaws.{ranges}
 use Rattle.file_round_trips.specs.RoundTrips.{ReadIsWritten}
 use Rattle.file_layout.proofs.NumberLaws.{Bytes, Has, has-four, code32, code16}
 use Rattle.file_layout.proofs.SectionLaws.{numbers-written}

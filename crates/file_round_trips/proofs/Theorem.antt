@@ -14,9 +14,8 @@ use Rattle.rules.specs.declared.FileRead.the-variants as FileRead
 use Rattle.rules.specs.Answers.{accepted, reading, fileAnswer}
 use Rattle.rules.specs.Field.{quadratic, admitted, faces, fieldLength}
 use Rattle.rules.specs.FieldFile.{byteAt, fileLength, readReply, readField, readWind, writeReply, writeFile}
-use Rattle.rules.proofs.FieldLaws.{ranges}
 use Rattle.rules.proofs.QuadraticLaws.{weights-above}
-use Rattle.field_layout.proofs.PlaceLaws.{sized}
+use Rattle.rules.proofs.ShapeLaws.{ranges}
 use Rattle.file_round_trips.specs.RoundTrips.{WrittenIsRead, ReadIsWritten, Wrote, Read, FoundAgain, SameBytes}
 use Rattle.file_layout.proofs.LayoutLaws.{length-le}
 use Rattle.file_round_trips.proofs.WrittenThenRead.{Storable, written-is-read-of}
@@ -24,7 +23,7 @@ use Rattle.file_round_trips.proofs.ReadThenWritten.{read-is-written-of}
 
 -- quadratic elements can be stored
 length-small : (g : Shape) → T (admitted g) → fileLength quadratic g < 4294967296
-length-small g t = omega (arith, length-le g (sized (ranges g t)))
+length-small g t = omega (arith, length-le g ((ranges g t)))
 
 storable : Storable quadratic
 unfolding quadratic

@@ -2,8 +2,7 @@
 ghost use mathlib.Core.Path.{_≡_};
 ghost use Prim.Native.Nat.{_*_};
 ghost use lib.ListN.{length};
-ghost use Rattle.rules.specs.Field.{quadratic, tracerLength, sound};
-ghost use Rattle.field_layout.specs.Places.{Sized};
+ghost use Rattle.rules.specs.Field.{quadratic, tracerLength, sound, Admitted};
 ghost use Rattle.file_sections.specs.Numbers.{numbersOf};
 use field_elements::element::WEIGHTS;
 use field_search::LIMIT;
@@ -12,7 +11,7 @@ use rules::Shape;
 // A leaf: whether no remainder of a tracer's section is above 35 and the total is not above the limit. "The search by rows,
 // elements and numbers ends at the first break."
 pub fn tracer_sound(section: &[u8], shape: Shape) -> bool
-    requires { ⌜ Sized shape ⌝ }
+    requires { ⌜ Admitted shape ⌝ }
     requires { ⌜ length (now section) ≡ 4 * tracerLength quadratic shape ⌝ }
     ensures { λ r. ⌜ r ≡ sound quadratic shape (numbersOf (now (section .entry)) (tracerLength quadratic shape)) ⌝ }
 {

@@ -11,10 +11,9 @@ use Rattle.whole.specs.Table.{blocks, overwrite}
 use Rattle.whole.proofs.OverwriteLaws.{part-at, length-overwrite}
 use Rattle.whole.proofs.TableLaws.{blocks-more, blocks-cong}
 use Rattle.rules.specs.declared.Shape.{Shape}
-use Rattle.rules.specs.Field.{quadratic, tracerLength, fieldLength, part, sound}
+use Rattle.rules.specs.Field.{quadratic, tracerLength, fieldLength, part, sound, Admitted}
 use Rattle.rules.specs.FieldFile.{bytes32, tableStart, mark, tail}
 use Rattle.rules.proofs.PartLaws.{part-length}
-use Rattle.field_layout.specs.Places.{Sized}
 use Rattle.field_search.specs.Search.{searched}
 use Rattle.rules.specs.declared.Refusal.{Refusal}
 use Rattle.rules.specs.declared.Reading.{Reading}
@@ -30,7 +29,7 @@ use Rattle.file_layout.proofs.SectionLaws.{length-section32}
 
 -- tracer s, which a loop finds from `start` on, `w` numbers
 module _ (g : Shape) (field : List ℕ) (room : fieldLength quadratic g ≤ length field) (s start w : ℕ) (there : s < g .tracers) (begins : start ≡ s * w) (width : w ≡ tracerLength quadratic g) where
-  pub ends : Sized g → (start + w ≤ fieldLength quadratic g) × (start + w ≤ 327680)
+  pub ends : Admitted g → (start + w ≤ fieldLength quadratic g) × (start + w ≤ 327680)
   ends h =
       let e : s * w ≡ s * tracerLength quadratic g = ap (λ n. s * n) width in
       let r = tracer-room g s there in

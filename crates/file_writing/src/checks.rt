@@ -5,16 +5,15 @@ ghost use Prim.Native.Nat.{_≤_};
 ghost use lib.Dec.{leb};
 ghost use lib.ListN.{length};
 ghost use Rattle.rules.specs.Answers.{reading};
-ghost use Rattle.rules.specs.Field.{quadratic, faces, fieldLength};
+ghost use Rattle.rules.specs.Field.{quadratic, faces, fieldLength, Admitted};
 ghost use Rattle.rules.specs.FieldFile.{fileLength, fieldSound, writeReply};
-ghost use Rattle.field_layout.specs.Places.{Sized};
 use rules::Reading;
 use rules::Refusal;
 use rules::Shape;
 
 // Whether buffers of these lengths are long enough.
 fn lent_enough(field: usize, wind: usize, file: usize, shape: Shape) -> bool
-    requires { ⌜ Sized shape ⌝ }
+    requires { ⌜ Admitted shape ⌝ }
     ensures { λ r. ⌜ r ≡ (leb (fieldLength quadratic shape) field && (leb (faces shape) wind && leb (fileLength quadratic shape) file)) ⌝ }
 {
     if field < field_layout::field_length(shape) {
@@ -28,7 +27,7 @@ fn lent_enough(field: usize, wind: usize, file: usize, shape: Shape) -> bool
 
 // Whether every tracer is sound.
 fn tracers_sound(field: &[u32], shape: Shape) -> bool
-    requires { ⌜ Sized shape ⌝ }
+    requires { ⌜ Admitted shape ⌝ }
     requires { ⌜ fieldLength quadratic shape ≤ length (now field) ⌝ }
     ensures { λ r. ⌜ r ≡ fieldSound quadratic shape (now (field .entry)) ⌝ }
 {

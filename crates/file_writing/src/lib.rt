@@ -5,9 +5,8 @@ ghost use Prim.Native.Nat.{_*_, _+_, _≤_};
 ghost use lib.ListN.{length, getD};
 ghost use Rattle.whole.specs.Table.{blocks, overwrite};
 ghost use Rattle.rules.specs.Answers.{reading};
-ghost use Rattle.rules.specs.Field.{quadratic, faces, fieldLength};
+ghost use Rattle.rules.specs.Field.{quadratic, faces, fieldLength, Admitted};
 ghost use Rattle.rules.specs.FieldFile.{bytes32, sectionStart, fileLength, tail, fileOf, writeReply, writeFile};
-ghost use Rattle.field_layout.specs.Places.{Sized};
 use file_layout::MARK;
 use rules::Reading;
 use rules::Shape;
@@ -16,7 +15,7 @@ mod checks; // checks.rt: the checks of a writing
 
 // Writes the section of each tracer.
 fn write_tracers(file: &mut [u8], field: &[u32], shape: Shape)
-    requires { ⌜ Sized shape ⌝ }
+    requires { ⌜ Admitted shape ⌝ }
     requires { ⌜ 2 * faces shape + 4 * fieldLength quadratic shape ≤ length (now file) ⌝ }
     requires { ⌜ fieldLength quadratic shape ≤ length (now field) ⌝ }
     ensures { λ _. ⌜ now (file .exit) ≡ overwrite (2 * faces shape) (blocks (fieldLength quadratic shape) (λ i. bytes32 (getD (now (field .entry)) i 0))) (now (file .entry)) ⌝ }
@@ -36,7 +35,7 @@ fn write_tracers(file: &mut [u8], field: &[u32], shape: Shape)
 
 // Writes the table of offsets.
 fn write_table(table: &mut [u8], shape: Shape)
-    requires { ⌜ Sized shape ⌝ }
+    requires { ⌜ Admitted shape ⌝ }
     requires { ⌜ 4 * (shape .tracers + 1) ≤ length (now table) ⌝ }
     ensures { λ _. ⌜ now (table .exit) ≡ overwrite 0 (blocks (shape .tracers + 1) (λ i. bytes32 (sectionStart quadratic shape i))) (now (table .entry)) ⌝ }
 {
@@ -48,7 +47,7 @@ fn write_table(table: &mut [u8], shape: Shape)
 
 // Writes the tail: the shape, a byte 0, the table's offset and the mark.
 fn write_tail(out: &mut [u8], shape: Shape)
-    requires { ⌜ Sized shape ⌝ }
+    requires { ⌜ Admitted shape ⌝ }
     requires { ⌜ length (now out) ≡ 12 ⌝ }
     ensures { λ _. ⌜ now (out .exit) ≡ tail quadratic shape ⌝ }
 {
@@ -65,7 +64,7 @@ fn write_tail(out: &mut [u8], shape: Shape)
 
 // Writes the file of a field and a wind that have passed the checks: the wind's section, the tracers' sections, the table, the tail.
 fn write_parts(file: &mut [u8], field: &[u32], wind: &[i16], shape: Shape)
-    requires { ⌜ Sized shape ⌝ }
+    requires { ⌜ Admitted shape ⌝ }
     requires { ⌜ fileLength quadratic shape ≤ length (now file) ⌝ }
     requires { ⌜ fieldLength quadratic shape ≤ length (now field) ⌝ }
     requires { ⌜ faces shape ≤ length (now wind) ⌝ }

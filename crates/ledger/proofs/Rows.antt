@@ -8,7 +8,7 @@ use lib.ListN.{length, take, drop}
 use lib.Seq.{take-at}
 use Rattle.whole.proofs.OverwriteLaws.{front-is}
 use Rattle.rules.specs.declared.Shape.{Shape}
-use Rattle.rules.specs.Answers.{Answer, accepted, refused, answer, plain, outcome}
+use Rattle.rules.specs.Answers.{Answer, accepted, refused, plain, outcome}
 use Rattle.rules.specs.Field.{quadratic, faces, fieldLength, part, remainder, mass, total}
 use Rattle.rules.specs.Calls.{Operation, load, emission, withdrawal, step, Lent, lengthsLent, done, call, reportAfter}
 use Rattle.whole.proofs.TableLaws.{length-table}

@@ -1,6 +1,5 @@
 -- Laws of what is printed: one tracer's lines after its step, and the whole text.
 use mathlib.Core.Path.{_≡_, sym, ap, subst, _∙_}
-use mathlib.Core.Bool.{true}
 use mathlib.Core.List.{List, [], _++_, append-nil, append-assoc}
 use Prim.Native.Nat.{ℕ, _+_, _*_, _≤_, _<_}
 use native.Mathlib.Nat.{zero-add, suc-mul}
@@ -17,7 +16,7 @@ use Rattle.rules.specs.declared.Refusal.{Refusal}
 use Rattle.rules.specs.declared.Way.{Way}
 use Rattle.rules.specs.declared.Way.the-variants.{East, North}
 use Rattle.rules.specs.Answers.{Answer, accepted, refused, plain, number}
-use Rattle.rules.specs.Field.{quadratic, admitted, faces, part}
+use Rattle.rules.specs.Field.{quadratic, faces, part}
 use Rattle.rules.specs.Grid.{faceIndex}
 use Rattle.rules.specs.Stages.{stages}
 use Rattle.rules.specs.Step.{tracerStep}
@@ -33,7 +32,7 @@ use Rattle.output.specs.AddedLines.{tracerRoom, LinesAdded, AddedOrRefus
 use Rattle.step.proofs.CheckLaws.{stepping, plain-refused, report-accepted}
 
 -- ---- the lines of a report that stands at the front of a longer buffer
-module _ (g : Shape) (s t : ℕ) (a : admitted g ≡ true) (rep old : List ℤ) (size : length rep ≡ faces g) (room : faces g ≤ length old) where
+module _ (g : Shape) (s t : ℕ) (rep old : List ℤ) (size : length rep ≡ faces g) (room : faces g ≤ length old) where
   value : (way : Way) (i j : ℕ) → i < g .nx → j < g .ny → at (overwrite 0 rep old) (faceIndex g way i j) ≡ at rep (faceIndex g way i j)
   value way i j hi hj = ap (at (overwrite 0 rep old)) (sym (zero-add (faceIndex g way i j))) ∙ overwrite-inside 0 rep old (omega (arith, size)) (pos 0) (faceIndex g way i j) (omega (arith, size, face-lt g way i j hi hj))
 
@@ -81,12 +80,12 @@ module _ (g : Shape) (wind : List ℤ) (s : ℕ) (field : List ℕ) (rl wl : ℕ
     lines-accepted t after f q = answers ∙ ap (λ x. rest x rep) (sym f) ∙ ap (λ a. next a (λ total. accepted (record { text = tracerLines g s rep total; field = after }))) q
 
     -- the lines that are printed from the report buffer
-    pub lines-are : (t : ℕ) (a : admitted g ≡ true) (old new : List ℤ) → new ≡ reportAfter (c .reply) old → faces g ≤ length old → tracerLines g s new t ≡ tracerLines g s rep t
+    pub lines-are : (t : ℕ) (old new : List ℤ) → new ≡ reportAfter (c .reply) old → faces g ≤ length old → tracerLines g s new t ≡ tracerLines g s rep t
     unfolding tracerStep
-    lines-are t a old new q room =
+    lines-are t old new q room =
         let p = stepping g s field wind rl wl e in
         ap (λ l. tracerLines g s l t) (q ∙ sym (report-accepted (c .reply) rep old (p .answers)))
-        ∙ lines-kept g s t a rep old (report-length quadratic g (p .small-grid .nx-above) (p .small-grid .ny-above) (windAt wind) (part quadratic g s field) (stages quadratic g (windAt wind) (part quadratic g s field))) room
+        ∙ lines-kept g s t rep old (report-length quadratic g (p .shape .nx-above) (p .shape .ny-above) (windAt wind) (part quadratic g s field) (stages quadratic g (windAt wind) (part quadratic g s field))) room
 
 -- ---- all tracers: after the line of the grid, the first s of them stand in the buffer from place `start` on
 pub record TracersAdded (g : Shape) (wind : List ℤ) (s : ℕ) (first now′ : List ℕ) (start : ℕ) (old new : List ℕ) (end : ℕ) : Type 0 where

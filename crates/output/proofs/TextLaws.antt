@@ -15,7 +15,7 @@ use Rattle.rules.specs.Answers.{Answer, accepted, refused}
 use Rattle.rules.specs.Field.{quadratic, admitted, elements, faces}
 use Rattle.rules.specs.FieldFile.{readReply, readField, readWind}
 use Rattle.rules.specs.Program.{refusedLine, Printed, next, upTo, textOf, printed}
-use Rattle.rules.proofs.FieldLaws.{ranges}
+use Rattle.rules.proofs.ShapeLaws.{ranges}
 use Rattle.text.specs.Added.{Added}
 use Rattle.text.proofs.AddedLaws.{added-length}
 use Rattle.output.specs.AddedLines.{tracerRoom, LinesAdded}

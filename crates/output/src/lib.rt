@@ -1,11 +1,10 @@
 // What the program prints for a file, as bytes in a lent buffer.
 ghost use mathlib.Core.Path.{_≡_};
-ghost use mathlib.Core.Bool.{true};
 ghost use Prim.Native.Nat.{_*_, _+_, _≤_};
 ghost use lib.ListN.{length, take};
 ghost use Rattle.io.specs.Counts.{Counts};
 ghost use Rattle.whole.specs.Table.{overwrite};
-ghost use Rattle.rules.specs.Field.{admitted, faces};
+ghost use Rattle.rules.specs.Field.{faces, Admitted};
 ghost use Rattle.rules.specs.Program.{stepped, upTo, printed, output};
 ghost use Rattle.output.specs.AddedLines.{tracerRoom, AddedOrRefused};
 use rules::FileRead;
@@ -31,7 +30,7 @@ fn tracer(
     tracer: usize,
     at: usize,
 ) -> Lines
-    requires { ⌜ admitted shape ≡ true ⌝ }
+    requires { ⌜ Admitted shape ⌝ }
     requires { ⌜ length (now report) ≡ 256 ⌝ }
     requires { ⌜ length (now work) ≡ 8192 ⌝ }
     requires { ⌜ faces shape ≤ 256 ⌝ }
@@ -67,7 +66,7 @@ fn tracers(
     work: &mut [i64],
     shape: Shape,
 ) -> Lines
-    requires { ⌜ admitted shape ≡ true ⌝ }
+    requires { ⌜ Admitted shape ⌝ }
     requires { ⌜ length (now report) ≡ 256 ⌝ }
     requires { ⌜ length (now work) ≡ 8192 ⌝ }
     requires { ⌜ faces shape ≤ 256 ⌝ }

@@ -9,12 +9,11 @@ use Rattle.rules.specs.Answers.{Answer, accepted, refused, plain}
 use Rattle.rules.specs.Field.{quadratic}
 use Rattle.rules.specs.Calls.{massReading, totalReading}
 use Rattle.rules.specs.FieldFile.{readReply, writeReply}
-use Rattle.rules.proofs.FieldLaws.{ranges}
-use Rattle.field_layout.proofs.PlaceLaws.{sized}
+use Rattle.rules.proofs.ShapeLaws.{ranges}
 use Rattle.field.proofs.CheckLaws.{found, held}
 use Rattle.file_layout.proofs.LayoutLaws.{length-le}
 use Rattle.file_layout.proofs.ReplyLaws.{read-shown, write-shown}
-use Rattle.c_numbers.specs.Numbers.{code, Small, SmallShape}
+use Rattle.c_numbers.specs.Numbers.{code, Small, AdmittedShape}
 
 -- whether a call was accepted is all that its code says
 pub code-plain : {A : Type 0} (a : Answer A) → code (plain a) ≡ code a
@@ -34,8 +33,8 @@ pub mass-answers : (g : Shape) (s i j : ℕ) (f : List ℕ) → Small (massReadi
 mass-answers g s i j f = record { small = λ n e. held g s i j f n e .small }
 
 -- ---- the answers of the field file are small
-pub read-answers : (file field : List ℕ) (wind : List ℤ) → SmallShape (readReply quadratic file field wind)
-read-answers file field wind = record { small = λ g e. sized (ranges g (read-shown quadratic g file field wind e .ranges)) }
+pub read-answers : (file field : List ℕ) (wind : List ℤ) → AdmittedShape (readReply quadratic file field wind)
+read-answers file field wind = record { small = λ g e. (ranges g (read-shown quadratic g file field wind e .ranges)) }
 
 pub write-answers : (g : Shape) (field : List ℕ) (wind : List ℤ) (file : List ℕ) → Small (writeReply quadratic g field wind file)
-write-answers g field wind file = record { small = λ n e. let w = write-shown quadratic g field wind file n e in omega (arith, w .1, length-le g (sized (ranges g (w .0 .ranges)))) }
+write-answers g field wind file = record { small = λ n e. let w = write-shown quadratic g field wind file n e in omega (arith, w .1, length-le g ((ranges g (w .0 .ranges)))) }

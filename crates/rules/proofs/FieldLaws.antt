@@ -13,12 +13,13 @@ use Rattle.whole.proofs.Cases.{true-of, both-yes}
 use Rattle.whole.proofs.OverwriteLaws.{part-room, length-replaced, part-same, part-other}
 use Rattle.rules.specs.declared.Shape.{Shape}
 use Rattle.rules.specs.Answers.{Answer, accepted, refused, Check, check, answer, after}
-use Rattle.rules.specs.Field.{Kind, admitted, from1to, elements, tracerLength, fieldLength, part, withPart, remainder, weightSum, total, limit, sound}
+use Rattle.rules.specs.Field.{Kind, admitted, elements, tracerLength, fieldLength, part, withPart, remainder, weightSum, total, limit, sound, Admitted}
 use Rattle.rules.specs.Step.{Stepped}
 use Rattle.rules.specs.Calls.{Operation, load, emission, withdrawal, step, Lent, lentEnough, soundIfThere, done, checks, call}
 use Rattle.rules.proofs.AnswerLaws.{Passed, answer-ind}
 use Rattle.rules.proofs.PartLaws.{part-length}
 use Rattle.rules.proofs.CallLaws.{done-length}
+use Rattle.rules.proofs.ShapeLaws.{ranges}
 
 -- ---- what a sound tracer says
 module _ (κ : Kind) (g : Shape) (p : List ℕ) where
@@ -31,32 +32,6 @@ module _ (κ : Kind) (g : Shape) (p : List ℕ) where
   unfolding soundIfThere
   sound-there true t h = h
   sound-there false t h = absurd t
-
--- what an admitted shape says
-pub record Ranges (g : Shape) : Type 0 where
-  pub nx-above : 0 < g .nx
-  pub nx-small : g .nx ≤ 64
-  pub ny-above : 0 < g .ny
-  pub ny-small : g .ny ≤ 64
-  pub tracers-above : 0 < g .tracers
-  pub tracers-small : g .tracers ≤ 8
-
-pub ranges : (g : Shape) → T (admitted g) → Ranges g
-unfolding admitted
-ranges g t =
-    let a = both-yes (from1to 64 (g .nx)) _ t in
-    let b = both-yes (from1to 64 (g .ny)) _ (a .1) in
-    let x = both-yes (leb 1 (g .nx)) _ (a .0) in
-    let y = both-yes (leb 1 (g .ny)) _ (b .0) in
-    let k = both-yes (leb 1 (g .tracers)) _ (b .1) in
-    record {
-      nx-above = leb→le _ _ (x .0);
-      nx-small = leb→le _ _ (x .1);
-      ny-above = leb→le _ _ (y .0);
-      ny-small = leb→le _ _ (y .1);
-      tracers-above = leb→le _ _ (k .0);
-      tracers-small = leb→le _ _ (k .1);
-    }
 
 -- an operation that passes names a tracer that is there
 there-of : (κ : Kind) (g : Shape) (op : Operation Lent) (there : Bool) (p : List ℕ) → Passed (checks κ g op there p) → T there
@@ -79,7 +54,7 @@ module _ (κ : Kind) (g : Shape) (s : ℕ) (op : Operation Lent) (field : List �
 
   -- what an accepted call has shown
   pub record Accepted : Type 0 where
-    pub shape : Ranges g
+    pub shape : Admitted g
     pub room : fieldLength κ g ≤ length field
     pub tracer : s < g .tracers
     pub passed : Passed (checks κ g op (ltb s (g .tracers)) p)
@@ -97,7 +72,7 @@ module _ (κ : Kind) (g : Shape) (s : ℕ) (op : Operation Lent) (field : List �
     size = done-length κ g (shape .nx-above) (shape .ny-above) op (ltb s (g .tracers)) p (part-length κ g s field tracer room) (c .1 .1);
   }
     where
-      shape : Ranges g
+      shape : Admitted g
       shape = ranges g (c .0)
 
       room : fieldLength κ g ≤ length field

@@ -1,4 +1,5 @@
 -- Laws of the rules.
+pub mod ShapeLaws
 pub mod RescalingLaws
 pub mod LimiterLaws
 pub mod GridLaws

@@ -2,7 +2,7 @@
 -- A tracer is document 01's smoke; a tracer's part is its numbers in the field buffer.
 use mathlib.Core.Bool.{Bool, _&&_}
 use mathlib.Core.List.{List, [], _∷_}
-use Prim.Native.Nat.{ℕ, _+_, _*_, _/_, _%_}
+use Prim.Native.Nat.{ℕ, _+_, _*_, _/_, _%_, _≤_, _<_}
 use lib.Dec.{leb, ltb}
 use lib.IntN.{ℤ, pos, negsuc}
 use lib.ListN.{getD, take, drop}
@@ -17,6 +17,15 @@ from1to most n = leb 1 n && leb n most
 
 unfoldable pub admitted : Shape → Bool
 admitted g = from1to 64 (g .nx) && (from1to 64 (g .ny) && from1to 8 (g .tracers))
+
+-- the same as facts: what every leaf of the code asks of a shape
+pub record Admitted (g : Shape) : Type 0 where
+  pub nx-above : 0 < g .nx
+  pub nx-small : g .nx ≤ 64
+  pub ny-above : 0 < g .ny
+  pub ny-small : g .ny ≤ 64
+  pub tracers-above : 0 < g .tracers
+  pub tracers-small : g .tracers ≤ 8
 
 -- elements of one tracer, and faces: "Each element owns its east and its north face."
 abbrev pub elements : Shape → ℕ

@@ -13,12 +13,12 @@ use Rattle.whole.proofs.Cases.{both-yes}
 use Rattle.whole.proofs.SumLaws.{all-at}
 use Rattle.rules.specs.declared.Shape.{Shape}
 use Rattle.rules.specs.Answers.{Answer, accepted, refused, Check, check, answer, plain}
-use Rattle.rules.specs.Field.{quadratic, admitted, faces, workNeeded, fieldLength, tracerLength, part, withPart, total}
+use Rattle.rules.specs.Field.{quadratic, admitted, faces, workNeeded, fieldLength, tracerLength, part, withPart, total, Admitted}
 use Rattle.rules.specs.Step.{tracerStep}
 use Rattle.rules.specs.Calls.{Operation, step, Lent, lengthsLent, windInRange, windAt, windSound, lentEnough, soundIfThere, checks, done, call, totalReading, reportAfter, WorkAfter}
 use Rattle.rules.proofs.AnswerLaws.{Passed, answer-ind, prefix-refused, prefix-accepted}
-use Rattle.rules.proofs.FieldLaws.{Ranges, ranges, total-small, sound-there}
-use Rattle.step_grid.specs.Place.{SmallGrid}
+use Rattle.rules.proofs.FieldLaws.{total-small, sound-there}
+use Rattle.rules.proofs.ShapeLaws.{ranges}
 use Rattle.step_upwind.specs.Upwind.{WindsInRange}
 
 -- ---- the call's answer, by its tests
@@ -73,8 +73,7 @@ module _ (g : Shape) (s : ℕ) (f : List ℕ) (wind : List ℤ) (rl wl : ℕ) wh
 
   -- what an accepted step has shown
   pub record Stepping : Type 0 where
-    pub small-grid : SmallGrid g
-    pub shape : Ranges g
+    pub shape : Admitted g
     pub room : fieldLength quadratic g ≤ length f
     pub tracer : s < g .tracers
     pub wind-range : WindsInRange g wind
@@ -101,7 +100,6 @@ module _ (g : Shape) (s : ℕ) (f : List ℕ) (wind : List ℤ) (rl wl : ℕ) wh
       let w = both-yes (leb (faces g) (length wind)) _ (b .1) in
       let q = both-yes (leb (faces g) rl) (leb (workNeeded g) wl) (w .1) in
       record {
-        small-grid = record { nx-above = shape .nx-above; nx-small = shape .nx-small; ny-above = shape .ny-above; ny-small = shape .ny-small };
         shape = shape;
         room = leb→le _ _ (b .0);
         tracer = ltb→lt _ _ (c .1 .1 .1 .1 .0);

@@ -9,7 +9,7 @@ use mir.Syntax.{w64, w32}
 use mir.Val.{toZ, ofZ}
 use Rattle.whole.specs.Bound.{Within}
 use Rattle.whole.specs.Parts.{positive}
-use Rattle.whole.specs.Table.{blocks, at}
+use Rattle.whole.specs.Table.{at}
 use Rattle.whole.proofs.WholeLaws.{positive-le}
 use Rattle.whole.proofs.BoundLaws.{within-le, within-add, within-sub}
 use Rattle.whole.proofs.Sizes.{exacts, exact}

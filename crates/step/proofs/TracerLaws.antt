@@ -23,7 +23,7 @@ use Rattle.whole.proofs.OverwriteLaws.{part-at, part-size, length-overwrite, ov
 use Rattle.whole.proofs.TableLaws.{getD-table, blocks-cong}
 use Rattle.whole.proofs.WholeLaws.{positive-pos, abs-parts}
 use Rattle.rules.specs.declared.Shape.{Shape}
-use Rattle.rules.specs.Field.{quadratic, elements, faces, northFace, elementLength, cell, remainder, mass, total}
+use Rattle.rules.specs.Field.{quadratic, elements, faces, northFace, elementLength, cell, remainder, mass, total, Admitted}
 use Rattle.rules.specs.Grid.{west, east, south, north, behind, ahead}
 use Rattle.rules.specs.Stages.{Stages, stages, flux}
 use Rattle.rules.specs.Limiter.{closed}
@@ -37,7 +37,6 @@ use Rattle.rules.proofs.LimiterLaws.{closed-cong}
 use Rattle.rules.proofs.QuadraticLaws.{weights-above}
 use Rattle.rules.proofs.StageBounds.{quadratic-bounded, ψ-within, flux-within}
 use Rattle.rules.proofs.StepLaws.{report-is, report-length, report-le, goal-above}
-use Rattle.step_grid.specs.Place.{SmallGrid}
 use Rattle.step_upwind.specs.Upwind.{WindsInRange}
 use Rattle.step_stages.specs.Advance.{section}
 use Rattle.step_stages.proofs.StagesLaws.{Holds}
@@ -49,7 +48,7 @@ use Rattle.step.specs.Finish.{Finished, massOf, tentativeOf, newElement}
 not-below : (n : ℕ) → pos 0 ≤ℤ pos n
 not-below n = record { le = le→leb 0 n (omega arith) }
 
-module _ (g : Shape) (wind : List ℤ) (p : List ℕ) (small-grid : SmallGrid g) (wind-range : WindsInRange g wind) (room : length p ≡ elements g * 10) (bound : total quadratic g p ≤ 100000000) where
+module _ (g : Shape) (wind : List ℤ) (p : List ℕ) (admits : Admitted g) (wind-range : WindsInRange g wind) (room : length p ≡ elements g * 10) (bound : total quadratic g p ≤ 100000000) where
   abbrev c : ℕ → ℤ
   c = windAt wind
 
@@ -88,10 +87,10 @@ module _ (g : Shape) (wind : List ℤ) (p : List ℕ) (small-grid : SmallGrid g)
       go (no l) k = let z : getD p i 0 ≡ 0 = List·getD-eq-default p 0 (omega (arith, room)) in omega arith
 
   pub flux-small : (f : ℕ) → f < faces g → Within 11600000000 (flux quadratic g c s f)
-  flux-small f l = within-le (flux-within quadratic quadratic-bounded g (small-grid .nx-above) (small-grid .ny-above) c (wind-range .small) p 100000000 number-small f l) (omega arith)
+  flux-small f l = within-le (flux-within quadratic quadratic-bounded g (admits .nx-above) (admits .ny-above) c (wind-range .small) p 100000000 number-small f l) (omega arith)
 
   pub tentative-small : (e k : ℕ) → Within 9200000000 (s .ψ e k)
-  tentative-small e k = within-le (ψ-within quadratic quadratic-bounded g (small-grid .nx-above) (small-grid .ny-above) c (wind-range .small) p 100000000 number-small e k) (omega arith)
+  tentative-small e k = within-le (ψ-within quadratic quadratic-bounded g (admits .nx-above) (admits .ny-above) c (wind-range .small) p 100000000 number-small e k) (omega arith)
 
   G-is : (f : ℕ) → f < faces g → G f ≡ flux quadratic g c s f
   G-is f l = getD-table (faces g) (flux quadratic g c s) f (pos 0) l
@@ -116,9 +115,9 @@ module _ (g : Shape) (wind : List ℤ) (p : List ℕ) (small-grid : SmallGrid g)
   fluxed w w′ h v = record {
     tentative = λ i l. v .kept (3 * section g + i) (λ x y. omega arith) (λ x y. omega arith) ∙ h .stage 3 (omega arith) i l;
     flux = by-way (λ f. at w′ (fluxesAt g + f) ≡ G f)
-        (λ e l. v .first e l ∙ east-flux-is g c p small-grid 3 w (omega arith) h e l ∙ sym (G-is e (omega arith)))
+        (λ e l. v .first e l ∙ east-flux-is g c p admits 3 w (omega arith) h e l ∙ sym (G-is e (omega arith)))
         (λ e l. let n : fluxesAt g + northFace g e ≡ 5 * section g + elements g + e = omega arith in
-        ap (at w′) n ∙ v .second e l ∙ north-flux-is g c p small-grid 3 w (omega arith) h e l ∙ sym (G-is (northFace g e) (omega arith)));
+        ap (at w′) n ∙ v .second e l ∙ north-flux-is g c p admits 3 w (omega arith) h e l ∙ sym (G-is (northFace g e) (omega arith)));
   }
 
   lent-at : (w : List ℤ) → Fluxed w → (f : ℕ) → f < faces g → at (lentFluxes g w) f ≡ G f
@@ -140,13 +139,13 @@ module _ (g : Shape) (wind : List ℤ) (p : List ℕ) (small-grid : SmallGrid g)
 
   local-is : (w : List ℤ) → Fluxed w → (e : ℕ) → e < elements g → localOutflow g (at (lentFluxes g w)) e ≡ outflow g (donor g G) G e
   local-is w h e l =
-      let wl = west-lt g (small-grid .nx-above) (small-grid .ny-above) e l in
-      let sl = south-lt g (small-grid .nx-above) (small-grid .ny-above) e l in
+      let wl = west-lt g (admits .nx-above) (admits .ny-above) e l in
+      let sl = south-lt g (admits .nx-above) (admits .ny-above) e l in
       let x = lent-at w h e (omega arith) in
       let y = lent-at w h (west g e) (omega (arith, wl)) in
       let z = lent-at w h (northFace g e) (omega arith) in
       let u = lent-at w h (northFace g (south g e)) (omega (arith, sl)) in
-      (λ i. (positive (x i) + negative (y i)) + (positive (z i) + negative (u i))) ∙ sym (outflow-local g (small-grid .nx-above) (small-grid .ny-above) G e l)
+      (λ i. (positive (x i) + negative (y i)) + (positive (z i) + negative (u i))) ∙ sym (outflow-local g (admits .nx-above) (admits .ny-above) G e l)
 
   pub weighed : (w w′ : List ℤ) → Fluxed w → Written (massesAt g) (outflowsAt g) (elements g) (λ e. pos (mass quadratic p e)) (λ e. pos (localOutflow g (at (lentFluxes g w)) e)) w w′ → Weighed w′
   weighed w w′ h v = record {
@@ -160,7 +159,7 @@ module _ (g : Shape) (wind : List ℤ) (p : List ℕ) (small-grid : SmallGrid g)
   module _ (w : List ℤ) (h : Weighed w) where
     donor-inside : (f : ℕ) → f < faces g → donor g G f < elements g
     unfolding donor
-    donor-inside f l = cond-ind (nonNeg (G f)) (behind g f) (ahead g f) (λ d. d < elements g) (λ _. behind-lt g (small-grid .nx-above) (small-grid .ny-above) f l) (λ _. ahead-lt g (small-grid .nx-above) (small-grid .ny-above) f l)
+    donor-inside f l = cond-ind (nonNeg (G f)) (behind g f) (ahead g f) (λ d. d < elements g) (λ _. behind-lt g (admits .nx-above) (admits .ny-above) f l) (λ _. ahead-lt g (admits .nx-above) (admits .ny-above) f l)
 
     limited-at : (f b a : ℕ) → f < faces g → behind g f ≡ b → ahead g f ≡ a → limitedFace g w f b a ≡ R f
     unfolding limitedFace limitedFlux donor
@@ -170,7 +169,7 @@ module _ (g : Shape) (wind : List ℤ) (p : List ℕ) (small-grid : SmallGrid g)
         ap (λ z. cut z (positive (at w (outflowsAt g + cond (nonNeg z) b a))) (positive (at w (massesAt g + cond (nonNeg z) b a)))) (h .flux f l)
         ∙ (λ i. cut (G f) (positive (at w (outflowsAt g + cond (nonNeg (G f)) (sym eb i) (sym ea i)))) (positive (at w (massesAt g + cond (nonNeg (G f)) (sym eb i) (sym ea i)))))
         ∙ ap₂ (cut (G f)) (ap positive (h .out d dl) ∙ positive-pos _) (ap positive (h .mass d dl) ∙ positive-pos _)
-        ∙ sym (report-is quadratic g (small-grid .nx-above) (small-grid .ny-above) c p s f l)
+        ∙ sym (report-is quadratic g (admits .nx-above) (admits .ny-above) c p s f l)
 
     pub east-limited : (e : ℕ) → e < elements g → limitedEast g w e ≡ R e
     east-limited e l = limited-at e e (east g e) (omega arith) (behind-east g e l) (ahead-east g e l)
@@ -179,7 +178,7 @@ module _ (g : Shape) (wind : List ℤ) (p : List ℕ) (small-grid : SmallGrid g)
     north-limited e l = limited-at (northFace g e) e (north g e) (omega arith) (behind-north g e l) (ahead-north g e l)
 
     R-small : (f : ℕ) → f < faces g → Within 100000000 (R f)
-    R-small f l = record { within = report-le quadratic g (small-grid .nx-above) (small-grid .ny-above) c p s bound f l }
+    R-small f l = record { within = report-le quadratic g (admits .nx-above) (admits .ny-above) c p s bound f l }
 
     mass-within : (e : ℕ) → e < elements g → NotNegative 100000000 (at w (massesAt g + e))
     mass-within e l = subst (NotNegative 100000000) (sym (h .mass e l)) (record { above = not-below _; small = within-le (within-pos _) (mass-small e l) })
@@ -187,11 +186,11 @@ module _ (g : Shape) (wind : List ℤ) (p : List ℕ) (small-grid : SmallGrid g)
     -- an outflow is at most four fluxes
     out-small : (e : ℕ) → e < elements g → outflow g (donor g G) G e ≤ 46400000000
     out-small e l =
-        let wl = west-lt g (small-grid .nx-above) (small-grid .ny-above) e l in
-        let sl = south-lt g (small-grid .nx-above) (small-grid .ny-above) e l in
+        let wl = west-lt g (admits .nx-above) (admits .ny-above) e l in
+        let sl = south-lt g (admits .nx-above) (admits .ny-above) e l in
         omega (
           arith,
-          outflow-local g (small-grid .nx-above) (small-grid .ny-above) G e l,
+          outflow-local g (admits .nx-above) (admits .ny-above) G e l,
           abs-parts (G e),
           abs-parts (G (west g e)),
           abs-parts (G (northFace g e)),
@@ -218,7 +217,7 @@ module _ (g : Shape) (wind : List ℤ) (p : List ℕ) (small-grid : SmallGrid g)
       report-at = by-way (λ f. at r′ f ≡ R f) (λ e l. ap (at r′) (sym (zero-add e)) ∙ v .first e l ∙ east-limited e l) (λ e l. v .second e l ∙ north-limited e l)
 
       size : length (report quadratic g c p s) ≡ faces g
-      size = report-length quadratic g (small-grid .nx-above) (small-grid .ny-above) c p s
+      size = report-length quadratic g (admits .nx-above) (admits .ny-above) c p s
 
       pub reported : r′ ≡ overwrite 0 (report quadratic g c p s) r
       reported = ext-getD (pos 0) r′ (overwrite 0 (report quadratic g c p s) r)
@@ -238,8 +237,8 @@ module _ (g : Shape) (wind : List ℤ) (p : List ℕ) (small-grid : SmallGrid g)
       target-same : (e : ℕ) → e < elements g → target g (massOf g w) (at r′) e ≡ target g (mass quadratic p) R e
       unfolding target
       target-same e l =
-          let wl = west-lt g (small-grid .nx-above) (small-grid .ny-above) e l in
-          let sl = south-lt g (small-grid .nx-above) (small-grid .ny-above) e l in
+          let wl = west-lt g (admits .nx-above) (admits .ny-above) e l in
+          let sl = south-lt g (admits .nx-above) (admits .ny-above) e l in
           let m = ap positive (h .mass e l) ∙ positive-pos (mass quadratic p e) in
           let x = report-at e (omega arith) in
           let y = report-at (west g e) (omega (arith, wl)) in
@@ -254,7 +253,7 @@ module _ (g : Shape) (wind : List ℤ) (p : List ℕ) (small-grid : SmallGrid g)
         masses = mass-within;
         fluxes = λ f l. subst (Within 100000000) (sym (report-at f l)) (R-small f l);
         values = λ i l. subst (Within 9200000000) (sym (h .tentative i l)) (tentative-small (i / 9) (i % 9));
-        targets = λ e l. ap negative (target-same e l) ∙ goal-above quadratic g (small-grid .nx-above) (small-grid .ny-above) c p s e l;
+        targets = λ e l. ap negative (target-same e l) ∙ goal-above quadratic g (admits .nx-above) (admits .ny-above) c p s e l;
       }
 
       pub all-closed : blocks (elements g) (newElement g w r′) ≡ finish quadratic g p s (report quadratic g c p s)

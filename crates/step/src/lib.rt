@@ -4,9 +4,8 @@ ghost use mathlib.Core.Path.{_≡_};
 ghost use mathlib.Core.Bool.{_&&_};
 ghost use lib.Dec.{leb};
 ghost use Rattle.rules.specs.Answers.{outcome, plain};
-ghost use Rattle.rules.specs.Field.{quadratic, faces, workNeeded, fieldLength};
+ghost use Rattle.rules.specs.Field.{quadratic, faces, workNeeded, fieldLength, Admitted};
 ghost use Rattle.rules.specs.Calls.{step, lengthsLent, call, stepCall, reportAfter, WorkAfter};
-ghost use Rattle.field_layout.specs.Places.{Sized};
 use rules::Outcome;
 use rules::Reading;
 use rules::Refusal;
@@ -16,7 +15,7 @@ mod tracer; // tracer.rt: the step on a tracer's part
 
 // Whether buffers of these lengths are long enough.
 fn lent_enough(field: usize, wind: usize, report: usize, work: usize, shape: Shape) -> bool
-    requires { ⌜ Sized shape ⌝ }
+    requires { ⌜ Admitted shape ⌝ }
     ensures { λ r. ⌜ r ≡ (leb (fieldLength quadratic shape) field && (leb (faces shape) wind && (leb (faces shape) report && leb (workNeeded shape) work))) ⌝ }
 {
     if field < field_layout::field_length(shape) {

@@ -5,11 +5,11 @@ ghost use Prim.Native.Nat.{_+_, _*_, _≤_};
 ghost use lib.ListN.{length};
 ghost use Rattle.whole.specs.Parts.{positive};
 ghost use Rattle.whole.specs.Table.{blocks, overwrite, at};
-ghost use Rattle.rules.specs.Field.{quadratic, elements, faces, total};
+ghost use Rattle.rules.specs.Field.{quadratic, elements, faces, total, Admitted};
 ghost use Rattle.rules.specs.Correction.{target};
 ghost use Rattle.rules.specs.Step.{tracerStep};
 ghost use Rattle.rules.specs.Calls.{windAt};
-ghost use Rattle.step_grid.specs.Place.{SmallGrid, Placed};
+ghost use Rattle.step_grid.specs.Place.{Placed};
 ghost use Rattle.step_upwind.specs.Upwind.{WindsInRange};
 ghost use Rattle.step.specs.Finish.{Finished, massOf, newElement};
 use rules::Shape;
@@ -32,7 +32,7 @@ fn target(work: &[i64], report: &[i32], shape: Shape, e: usize) -> u64
 
 // Every element is closed with its tentative values and its target.
 fn finish(part: &mut [u32], work: &[i64], report: &[i32], shape: Shape)
-    requires { ⌜ SmallGrid shape ⌝ }
+    requires { ⌜ Admitted shape ⌝ }
     requires { ⌜ length (now part) ≡ elements shape * 10 ⌝ }
     requires { ⌜ Finished shape (now work) (now report) ⌝ }
     ensures { λ _. ⌜ now (part .exit) ≡ blocks (elements shape) (newElement shape (now (work .entry)) (now (report .entry))) ⌝ }
@@ -58,7 +58,7 @@ pub(crate) fn step(
     work: &mut [i64],
     shape: Shape,
 )
-    requires { ⌜ SmallGrid shape ⌝ }
+    requires { ⌜ Admitted shape ⌝ }
     requires { ⌜ length (now part) ≡ elements shape * 10 ⌝ }
     requires { ⌜ total quadratic shape (now part) ≤ 100000000 ⌝ }
     requires { ⌜ WindsInRange shape (now wind) ⌝ }

@@ -11,9 +11,9 @@ ghost use Rattle.whole.specs.Table.{at};
 ghost use Rattle.whole.specs.Bound.{Within, Are, AllWithin};
 ghost use Rattle.whole.specs.Parts.{positive, negative};
 ghost use Rattle.whole.specs.Written.{Written};
-ghost use Rattle.rules.specs.Field.{quadratic, elements, faces, mass};
+ghost use Rattle.rules.specs.Field.{quadratic, elements, faces, mass, Admitted};
 ghost use Rattle.rules.specs.Correction.{cut};
-ghost use Rattle.step_grid.specs.Place.{SmallGrid, Placed};
+ghost use Rattle.step_grid.specs.Place.{Placed};
 ghost use Rattle.step_correction.specs.Amounts.{NotNegative, WithinLimit, massesAt, outflowsAt, localOutflow, lentFluxes, limitedFace, limitedEast, limitedNorth, Amounts};
 use rules::Shape;
 
@@ -57,7 +57,7 @@ fn outflow(fluxes: &[i64], shape: Shape, e: usize) -> i64
 
 // The masses and the outflows of all elements of a tracer's part.
 pub fn amounts(work: &mut [i64], part: &[u32], shape: Shape)
-    requires { ⌜ SmallGrid shape ⌝ }
+    requires { ⌜ Admitted shape ⌝ }
     requires { ⌜ length (now part) ≡ elements shape * 10 ⌝ }
     requires { ⌜ WithinLimit shape (now part) ⌝ }
     requires { ⌜ outflowsAt shape + elements shape ≤ length (now work) ⌝ }
@@ -101,7 +101,7 @@ fn donor(flux: i64, behind: usize, ahead: usize) -> usize
 
 // The limited flux of face f between the elements behind and ahead.
 fn limited_face(work: &[i64], shape: Shape, f: usize, behind: usize, ahead: usize) -> i64
-    requires { ⌜ SmallGrid shape ⌝ }
+    requires { ⌜ Admitted shape ⌝ }
     requires { ⌜ Amounts shape (now work) ⌝ }
     requires { ⌜ f < faces shape ⌝ }
     requires { ⌜ behind < elements shape ⌝ }
@@ -119,7 +119,7 @@ fn limited_face(work: &[i64], shape: Shape, f: usize, behind: usize, ahead: usiz
 
 // The limited fluxes of all faces, the face report.
 pub fn limit(work: &[i64], report: &mut [i32], shape: Shape)
-    requires { ⌜ SmallGrid shape ⌝ }
+    requires { ⌜ Admitted shape ⌝ }
     requires { ⌜ Amounts shape (now work) ⌝ }
     requires { ⌜ faces shape ≤ length (now report) ⌝ }
     ensures { λ _. ⌜ Written 0 (elements shape) (elements shape) (limitedEast shape (now (work .entry))) (limitedNorth shape (now (work .entry))) (now (report .entry)) (now (report .exit)) ⌝ }

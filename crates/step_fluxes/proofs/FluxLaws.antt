@@ -10,11 +10,10 @@ use Rattle.whole.specs.Table.{at}
 use Rattle.whole.proofs.OverwriteLaws.{part-at}
 use Rattle.whole.proofs.SumLaws.{sumℤ-cong}
 use Rattle.rules.specs.declared.Shape.{Shape}
-use Rattle.rules.specs.Field.{quadratic, elements, faces, northFace}
+use Rattle.rules.specs.Field.{quadratic, elements, faces, northFace, Admitted}
 use Rattle.rules.specs.Grid.{east, north}
 use Rattle.rules.specs.Stages.{upwind, faceSum, fluxOf, flux, Stages, stages}
 use Rattle.rules.proofs.GridLaws.{looks-east, looks-north, behind-east, ahead-east, behind-north, ahead-north, east-lt, north-lt}
-use Rattle.step_grid.specs.Place.{SmallGrid}
 use Rattle.step_upwind.specs.Upwind.{asStage, upwindStart}
 use Rattle.step_upwind.proofs.TendencyLaws.{upwind-cong, upwind-east-at, upwind-north-at}
 use Rattle.step_stages.specs.Advance.{section}
@@ -22,7 +21,7 @@ use Rattle.step_stages.proofs.StagesLaws.{stageOf, Holds, section-is}
 use Rattle.step_fluxes.specs.Face.{stagesSum, faceFlux, eastFlux, northFlux}
 use Rattle.step_fluxes.proofs.Laws.{start-room}
 
-module _ (g : Shape) (c : ℕ → ℤ) (p : List ℕ) (small-grid : SmallGrid g) (m : ℕ) (w : List ℤ) (two : 2 ≤ m) (h : Holds g c p m w) where
+module _ (g : Shape) (c : ℕ → ℤ) (p : List ℕ) (admits : Admitted g) (m : ℕ) (w : List ℤ) (two : 2 ≤ m) (h : Holds g c p m w) where
   abbrev s : Stages
   s = stages quadratic g c p
 
@@ -34,7 +33,7 @@ module _ (g : Shape) (c : ℕ → ℤ) (p : List ℕ) (small-grid : SmallGrid g)
 
     value : (j : ℕ) → j ≤ 2 → (r : ℕ) → r < 3 → upwind quadratic g c (stageOf s j) f r ≡ at w (j * section g + (start + stride * r))
     value j lj r l =
-        sym (upwind-cong g small-grid c (asStage (take (section g) (drop (j * section g) w))) (stageOf s j) (section-is g c p m w h j (omega arith)) f r lf l)
+        sym (upwind-cong g admits c (asStage (take (section g) (drop (j * section g) w))) (stageOf s j) (section-is g c p m w h j (omega arith)) f r lf l)
         ∙ stands (take (section g) (drop (j * section g) w)) r
         ∙ part-at (section g) (j * section g) (section g) w (start + stride * r) (pos 0) refl (place r l)
 
@@ -49,10 +48,10 @@ module _ (g : Shape) (c : ℕ → ℤ) (p : List ℕ) (small-grid : SmallGrid g)
   module _ (e : ℕ) (le : e < elements g) where
     pub east-flux-is : eastFlux g c w e ≡ flux quadratic g c s e
     east-flux-is = flux-of e (upwindStart (c e) e (east g e) 2) 3 (omega arith)
-        (start-room (c e) e (east g e) 2 3 (section g) (omega arith) (omega arith) (omega (arith, east-lt g (small-grid .nx-above) (small-grid .ny-above) e le)))
+        (start-room (c e) e (east g e) 2 3 (section g) (omega arith) (omega arith) (omega (arith, east-lt g (admits .nx-above) (admits .ny-above) e le)))
         (λ l r. upwind-east-at g c l e e (east g e) r (looks-east g e le) (behind-east g e le) (ahead-east g e le)) e (east g e) 2 refl
 
     pub north-flux-is : northFlux g c w e ≡ flux quadratic g c s (northFace g e)
     north-flux-is = flux-of (northFace g e) (upwindStart (c (northFace g e)) e (north g e) 6) 1 (omega arith)
-        (start-room (c (northFace g e)) e (north g e) 6 1 (section g) (omega arith) (omega arith) (omega (arith, north-lt g (small-grid .nx-above) (small-grid .ny-above) e le)))
+        (start-room (c (northFace g e)) e (north g e) 6 1 (section g) (omega arith) (omega arith) (omega (arith, north-lt g (admits .nx-above) (admits .ny-above) e le)))
         (λ l r. upwind-north-at g c l (northFace g e) e (north g e) r (looks-north g e) (behind-north g e le) (ahead-north g e le)) e (north g e) 6 refl

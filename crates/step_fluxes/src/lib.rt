@@ -4,9 +4,8 @@ ghost use Prim.Native.Nat.{_+_, _*_, _≤_, _<_};
 ghost use lib.ListN.{length};
 ghost use Rattle.whole.specs.Bound.{Within, Are};
 ghost use Rattle.whole.specs.Written.{Written};
-ghost use Rattle.rules.specs.Field.{elements};
+ghost use Rattle.rules.specs.Field.{elements, Admitted};
 ghost use Rattle.rules.specs.Calls.{windAt};
-ghost use Rattle.step_grid.specs.Place.{SmallGrid};
 ghost use Rattle.step_upwind.specs.Upwind.{WindsInRange};
 ghost use Rattle.step_stages.specs.Advance.{section};
 ghost use Rattle.step_fluxes.specs.Face.{Staged, stagesSum, faceFlux, eastFlux, northFlux};
@@ -60,7 +59,7 @@ fn face_flux(
 
 // The fluxes of all faces.
 pub fn fluxes(work: &mut [i64], wind: &[i16], shape: Shape)
-    requires { ⌜ SmallGrid shape ⌝ }
+    requires { ⌜ Admitted shape ⌝ }
     requires { ⌜ WindsInRange shape (now wind) ⌝ }
     requires { ⌜ Staged (now work) (section shape) ⌝ }
     requires { ⌜ 5 * section shape + (elements shape + elements shape) ≤ length (now work) ⌝ }

@@ -2,18 +2,12 @@
 use mathlib.Core.Path.{_≡_, ap, _∙_}
 use mathlib.Core.Logic.{_≢_}
 use Prim.Native.Nat.{ℕ, suc, _+_, _*_, _-_, _/_, _%_, _≤_, _<_}
-use native.Mathlib.Nat.{mul-comm, mul-le-mul, mul-le-mul-left, mul-one, suc-mul, mod-lt, zero-mul, le-antisymm, lt-of-mul-lt-mul-right, mod-self, mod-eq-of-lt, add-mod-right, div-add-mod', div-lt-iff-lt-mul, div-eq-of-lt}
+use native.Mathlib.Nat.{mul-comm, suc-mul, mod-lt, zero-mul, le-antisymm, lt-of-mul-lt-mul-right, mod-self, mod-eq-of-lt, add-mod-right, div-add-mod', div-lt-iff-lt-mul, div-eq-of-lt}
 use native.Mathlib.Omega.{arith}
 use Rattle.rules.specs.declared.Shape.{Shape}
 use Rattle.rules.specs.Field.{elements}
 use Rattle.rules.specs.Grid.{west, east, south, north}
-use Rattle.step_grid.specs.Place.{SmallGrid, Placed}
-
-pub elements-le : (g : Shape) → SmallGrid g → elements g ≤ 4096
-elements-le g h = mul-le-mul (h .nx-small) (h .ny-small)
-
-pub row-le : (g : Shape) → SmallGrid g → g .nx ≤ elements g
-row-le g h = omega (arith, mul-le-mul-left (g .nx) (h .ny-above), mul-one (g .nx))
+use Rattle.step_grid.specs.Place.{Placed}
 
 -- one place back and one on, around m places
 back-first : (m x : ℕ) → 0 < m → x ≡ 0 → (x + (m - 1)) % m ≡ m - 1
@@ -37,14 +31,14 @@ module _ (g : Shape) (e : ℕ) (h : Placed g e) where
   row-column = div-add-mod' e (g .nx)
 
   column-lt : e % g .nx < g .nx
-  column-lt = mod-lt e (h .small-grid .nx-above)
+  column-lt = mod-lt e (h .admits .nx-above)
 
   row-lt : e / g .nx < g .ny
-  row-lt = div-lt-iff-lt-mul (h .small-grid .nx-above) .1 (omega (arith, h .inside, mul-comm (g .nx) (g .ny)))
+  row-lt = div-lt-iff-lt-mul (h .admits .nx-above) .1 (omega (arith, h .inside, mul-comm (g .nx) (g .ny)))
 
   pub west-first : e % g .nx ≡ 0 → e + g .nx - 1 ≡ west g e
   unfolding west
-  west-first z = omega (arith, back-first (g .nx) (e % g .nx) (h .small-grid .nx-above) z, row-column, h .small-grid .nx-above)
+  west-first z = omega (arith, back-first (g .nx) (e % g .nx) (h .admits .nx-above) z, row-column, h .admits .nx-above)
 
   pub west-next : e % g .nx ≢ 0 → e - 1 ≡ west g e
   unfolding west
@@ -68,8 +62,8 @@ module _ (g : Shape) (e : ℕ) (h : Placed g e) where
   unfolding south
   south-first l =
       let f = first-row l in
-      let r = back-first (g .ny) (e / g .nx) (h .small-grid .ny-above) (f .0) in
-      let m : elements g ≡ (g .ny - 1) * g .nx + g .nx = mul-comm (g .nx) (g .ny) ∙ ap (λ n. n * g .nx) (omega (arith, h .small-grid .ny-above)) ∙ suc-mul (g .ny - 1) (g .nx) in
+      let r = back-first (g .ny) (e / g .nx) (h .admits .ny-above) (f .0) in
+      let m : elements g ≡ (g .ny - 1) * g .nx + g .nx = mul-comm (g .nx) (g .ny) ∙ ap (λ n. n * g .nx) (omega (arith, h .admits .ny-above)) ∙ suc-mul (g .ny - 1) (g .nx) in
       omega (arith, ap (λ q. q * g .nx) r, f .1, m)
 
   pub south-next : g .nx ≤ e → e - g .nx ≡ south g e

@@ -65,5 +65,5 @@ pub tendencies-small : (g : Shape) (wind : List ℤ) (l : List ℤ) (e : ℕ) �
 unfolding quadratic
 tendencies-small g wind l e p c h = record {
   all = table-all (Within 11900000000) 9 (tendency quadratic g (windAt wind) (asStage l) e) (pos 0) (within-le (within-pos 0) (omega arith))
-      (λ k q. tendency-within quadratic quadratic-bounded g (p .small-grid .nx-above) (p .small-grid .ny-above) (windAt wind) (c .small) 1700000000 (asStage l) (λ e k. h .all (e * 9 + k)) e k (p .inside) q);
+      (λ k q. tendency-within quadratic quadratic-bounded g (p .admits .nx-above) (p .admits .ny-above) (windAt wind) (c .small) 1700000000 (asStage l) (λ e k. h .all (e * 9 + k)) e k (p .inside) q);
 }

@@ -14,10 +14,9 @@ use Rattle.whole.proofs.BoundLaws.{within-le, within-add, within-pos}
 use Rattle.whole.proofs.OverwriteLaws.{part-at, part-size, part-room}
 use Rattle.whole.proofs.TableLaws.{getD-table}
 use Rattle.rules.specs.declared.Shape.{Shape}
-use Rattle.rules.specs.Field.{quadratic, elements, faces}
+use Rattle.rules.specs.Field.{quadratic, elements, faces, Admitted}
 use Rattle.rules.specs.Stages.{tendency, tabulated, stage0, stage1, stage2, tentative, Stages, stages}
 use Rattle.rules.proofs.StageBounds.{quadratic-bounded, φ0-within, t0-within, φ1-within, t1-within, φ2-within}
-use Rattle.step_grid.specs.Place.{SmallGrid}
 use Rattle.step_upwind.specs.Upwind.{asStage}
 use Rattle.step_upwind.proofs.TendencyLaws.{tendency-cong}
 use Rattle.step_stages.specs.Advance.{section, newSum, newValue, storedValue, Ready, gridSums, gridValues}
@@ -102,42 +101,42 @@ module _ (g : Shape) (c : ℕ → ℤ) (p : List ℕ) where
     room : m * section g + section g ≤ length w
     room = omega (arith, part-room (section g) {s = m} {n = 3} lm, h .long)
 
-    sums-are : SmallGrid g → (i : ℕ) → i < section g → gridSums g c m w i ≡ sumOf s (suc m) (i / 9) (i % 9)
-    sums-are small-grid i q =
+    sums-are : Admitted g → (i : ℕ) → i < section g → gridSums g c m w i ≡ sumOf s (suc m) (i / 9) (i % 9)
+    sums-are admits i q =
         let r = place i q in
-        ap₂ (newSum m) (h .sums i q) (tendency-cong g small-grid c (asStage (take (section g) (drop (m * section g) w))) (stageOf s m) (section-is m w h m (omega arith)) (i / 9) (i % 9) (r .0) (r .1)
+        ap₂ (newSum m) (h .sums i q) (tendency-cong g admits c (asStage (take (section g) (drop (m * section g) w))) (stageOf s m) (section-is m w h m (omega arith)) (i / 9) (i % 9) (r .0) (r .1)
         ∙ sym (tendency-is m (i / 9) (i % 9) lm (r .0) (r .1)))
 
-    values-are : SmallGrid g → (i : ℕ) → i < section g → gridValues g c m w i ≡ stageOf s (suc m) (i / 9) (i % 9)
-    values-are small-grid i q = ap₂ (newValue m) (ap (at w) (omega arith) ∙ h .stage 0 (omega arith) i q) (sums-are small-grid i q) ∙ next-is m (i / 9) (i % 9) lm
+    values-are : Admitted g → (i : ℕ) → i < section g → gridValues g c m w i ≡ stageOf s (suc m) (i / 9) (i % 9)
+    values-are admits i q = ap₂ (newValue m) (ap (at w) (omega arith) ∙ h .stage 0 (omega arith) i q) (sums-are admits i q) ∙ next-is m (i / 9) (i % 9) lm
 
-    pub holds-next : SmallGrid g → (w′ : List ℤ) → Written ((m + 1) * section g) (4 * section g) (section g) (gridValues g c m w) (gridSums g c m w) w w′ → Holds (suc m) w′
-    holds-next small-grid w′ v = record {
+    pub holds-next : Admitted g → (w′ : List ℤ) → Written ((m + 1) * section g) (4 * section g) (section g) (gridValues g c m w) (gridSums g c m w) w w′ → Holds (suc m) w′
+    holds-next admits w′ v = record {
       long = omega (arith, h .long, v .long);
       stage = λ j l i q. go j i q (ℕ-discrete j (suc m)) l;
-      sums = λ i q. v .second i q ∙ sums-are small-grid i q;
+      sums = λ i q. v .second i q ∙ sums-are admits i q;
     }
       where
         go : (j i : ℕ) → i < section g → Dec (j ≡ suc m) → j ≤ suc m → at w′ (j * section g + i) ≡ stageOf s j (i / 9) (i % 9)
-        go j i q (yes e) l = ap (λ n. at w′ (n * section g + i)) (omega arith) ∙ v .first i q ∙ values-are small-grid i q ∙ ap (λ n. stageOf s n (i / 9) (i % 9)) (sym e)
+        go j i q (yes e) l = ap (λ n. at w′ (n * section g + i)) (omega arith) ∙ v .first i q ∙ values-are admits i q ∙ ap (λ n. stageOf s n (i / 9) (i % 9)) (sym e)
         go j i q (no ne) l =
             let below : j * section g + section g ≤ (m + 1) * section g = part-room (section g) {s = j} {n = m + 1} (omega (arith, ne)) in
             let top : (m + 1) * section g ≤ 3 * section g = mul-le-mul-right (section g) (omega arith) in
             v .kept (j * section g + i) (λ x y. omega arith) (λ x y. omega arith) ∙ h .stage j (omega (arith, ne)) i q
 
   -- ---- sizes: every stored value is at most the limit, every wind in its range
-  module _ (small-grid : SmallGrid g) (wind-range : (f : ℕ) → f < faces g → Within 1024 (c f)) (small : (i : ℕ) → getD p i 0 ≤ 100000000) where
+  module _ (admits : Admitted g) (wind-range : (f : ℕ) → f < faces g → Within 1024 (c f)) (small : (i : ℕ) → getD p i 0 ≤ 100000000) where
     stage-within : (m e k : ℕ) → m < 3 → Within 1700000000 (stageOf s m e k)
-    stage-within zero e k h = within-le (φ0-within quadratic quadratic-bounded g (small-grid .nx-above) (small-grid .ny-above) c wind-range p 100000000 small e k) (omega arith)
-    stage-within (suc zero) e k h = within-le (φ1-within quadratic quadratic-bounded g (small-grid .nx-above) (small-grid .ny-above) c wind-range p 100000000 small e k) (omega arith)
-    stage-within (suc (suc zero)) e k h = within-le (φ2-within quadratic quadratic-bounded g (small-grid .nx-above) (small-grid .ny-above) c wind-range p 100000000 small e k) (omega arith)
+    stage-within zero e k h = within-le (φ0-within quadratic quadratic-bounded g (admits .nx-above) (admits .ny-above) c wind-range p 100000000 small e k) (omega arith)
+    stage-within (suc zero) e k h = within-le (φ1-within quadratic quadratic-bounded g (admits .nx-above) (admits .ny-above) c wind-range p 100000000 small e k) (omega arith)
+    stage-within (suc (suc zero)) e k h = within-le (φ2-within quadratic quadratic-bounded g (admits .nx-above) (admits .ny-above) c wind-range p 100000000 small e k) (omega arith)
     stage-within (suc (suc (suc m))) e k h = let f : ⊥ = omega arith in absurd f
 
     t0-small : (e k : ℕ) → Within 700000000 (s .t0 e k)
-    t0-small e k = within-le (t0-within quadratic quadratic-bounded g (small-grid .nx-above) (small-grid .ny-above) c wind-range p 100000000 small e k) (omega arith)
+    t0-small e k = within-le (t0-within quadratic quadratic-bounded g (admits .nx-above) (admits .ny-above) c wind-range p 100000000 small e k) (omega arith)
 
     t1-small : (e k : ℕ) → Within 5600000000 (s .t1 e k)
-    t1-small e k = within-le (t1-within quadratic quadratic-bounded g (small-grid .nx-above) (small-grid .ny-above) c wind-range p 100000000 small e k) (omega arith)
+    t1-small e k = within-le (t1-within quadratic quadratic-bounded g (admits .nx-above) (admits .ny-above) c wind-range p 100000000 small e k) (omega arith)
 
     sum-within : (m e k : ℕ) → m < 3 → Within 6300000000 (sumOf s m e k)
     sum-within zero e k h = within-le (within-pos 0) (omega arith)
@@ -149,7 +148,7 @@ module _ (g : Shape) (c : ℕ → ℤ) (p : List ℕ) where
     ready m w lm h = record {
       long = h .long;
       stage = record { all = λ i. go i (decLt i (section g)) };
-      values = λ i q. subst (Within 100000000) (sym (ap (at w) (omega arith) ∙ h .stage 0 (omega arith) i q)) (φ0-within quadratic quadratic-bounded g (small-grid .nx-above) (small-grid .ny-above) c wind-range p 100000000 small (i / 9) (i % 9));
+      values = λ i q. subst (Within 100000000) (sym (ap (at w) (omega arith) ∙ h .stage 0 (omega arith) i q)) (φ0-within quadratic quadratic-bounded g (admits .nx-above) (admits .ny-above) c wind-range p 100000000 small (i / 9) (i % 9));
       small = λ i q. subst (Within 6300000000) (sym (h .sums i q)) (sum-within m (i / 9) (i % 9) lm);
     }
       where

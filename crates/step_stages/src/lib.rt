@@ -7,9 +7,8 @@ ghost use lib.IntN.{pos};
 ghost use lib.ListN.{length, getD};
 ghost use Rattle.whole.specs.Bound.{Within, Are, AllWithin, floorDiv};
 ghost use Rattle.whole.specs.Written.{Written};
-ghost use Rattle.rules.specs.Field.{elements};
+ghost use Rattle.rules.specs.Field.{elements, Admitted};
 ghost use Rattle.rules.specs.Calls.{windAt};
-ghost use Rattle.step_grid.specs.Place.{SmallGrid};
 ghost use Rattle.step_upwind.specs.Upwind.{WindsInRange};
 ghost use Rattle.step_stages.specs.Advance.{section, factor, divisor, Element, elementSums, elementValues, storedValue, Ready, gridSums, gridValues};
 use rules::Shape;
@@ -57,7 +56,7 @@ fn advance_element(
 
 // From a stage to the next one: every element's tendencies, sums and values.
 pub fn advance(work: &mut [i64], wind: &[i16], shape: Shape, stage: usize)
-    requires { ⌜ SmallGrid shape ⌝ }
+    requires { ⌜ Admitted shape ⌝ }
     requires { ⌜ WindsInRange shape (now wind) ⌝ }
     requires { ⌜ stage < 3 ⌝ }
     requires { ⌜ Ready shape stage (now work) ⌝ }
@@ -95,7 +94,7 @@ fn start_element(work: &mut [i64], numbers: &[u32], to: usize, sums: usize)
 
 // Stage 0 of a tracer's part, and zero sums.
 pub fn start(work: &mut [i64], part: &[u32], shape: Shape)
-    requires { ⌜ SmallGrid shape ⌝ }
+    requires { ⌜ Admitted shape ⌝ }
     requires { ⌜ length (now part) ≡ elements shape * 10 ⌝ }
     requires { ⌜ 5 * section shape ≤ length (now work) ⌝ }
     ensures { λ _. ⌜ Written 0 (4 * section shape) (section shape) (storedValue (now (part .entry))) (λ _. pos 0) (now (work .entry)) (now (work .exit)) ⌝ }

@@ -84,11 +84,11 @@ module _ (g : Shape) (e : ℕ) (h : Placed g e) where
   -- the elements at the four sides are on the grid
   pub behind-inside : (s : ℕ) → s < 4 → getD (behinds g e) s 0 < elements g
   behind-inside = four (λ s. getD (behinds g e) s 0 < elements g)
-      (west-lt g (h .small-grid .nx-above) (h .small-grid .ny-above) e (h .inside)) (h .inside) (south-lt g (h .small-grid .nx-above) (h .small-grid .ny-above) e (h .inside)) (h .inside)
+      (west-lt g (h .admits .nx-above) (h .admits .ny-above) e (h .inside)) (h .inside) (south-lt g (h .admits .nx-above) (h .admits .ny-above) e (h .inside)) (h .inside)
 
   pub ahead-inside : (s : ℕ) → s < 4 → getD (aheads g e) s 0 < elements g
   ahead-inside = four (λ s. getD (aheads g e) s 0 < elements g)
-      (h .inside) (east-lt g (h .small-grid .nx-above) (h .small-grid .ny-above) e (h .inside)) (h .inside) (north-lt g (h .small-grid .nx-above) (h .small-grid .ny-above) e (h .inside))
+      (h .inside) (east-lt g (h .admits .nx-above) (h .admits .ny-above) e (h .inside)) (h .inside) (north-lt g (h .admits .nx-above) (h .admits .ny-above) e (h .inside))
 
 pub last-lt : (s : ℕ) → getD lasts s 0 < 9
 last-lt zero = omega arith

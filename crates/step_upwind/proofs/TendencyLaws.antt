@@ -16,12 +16,12 @@ use Rattle.whole.proofs.BoundLaws.{within-le, within-pos}
 use Rattle.whole.proofs.SumLaws.{sumℤ-cong}
 use Rattle.whole.proofs.TableLaws.{getD-table, table-all, table-cong}
 use Rattle.rules.specs.declared.Shape.{Shape}
-use Rattle.rules.specs.Field.{quadratic, elements, faces, northFace}
+use Rattle.rules.specs.Field.{quadratic, elements, faces, northFace, Admitted}
 use Rattle.rules.specs.Grid.{west, east, south, north, looksEast, behind, ahead}
 use Rattle.rules.specs.Stages.{node, upwind, placeWind, advection, alongX, alongY, tendency}
 use Rattle.rules.specs.Calls.{windAt}
 use Rattle.rules.proofs.GridLaws.{west-lt, south-lt, east-west, north-south, looks-east, looks-north, behind-lt, ahead-lt, behind-east, ahead-east, behind-north, ahead-north}
-use Rattle.step_grid.specs.Place.{SmallGrid, Placed}
+use Rattle.step_grid.specs.Place.{Placed}
 use Rattle.step_tendency.specs.Line.{localTendency}
 use Rattle.step_upwind.specs.Upwind.{asStage, WindsInRange, sideWinds, lasts, strides, upwindStart, sideStart, upwindPlace, Reached}
 use Rattle.step_upwind.proofs.Laws.{four, behind-inside, ahead-inside}
@@ -77,7 +77,7 @@ module _ (g : Shape) (c : ℕ → ℤ) (φ : ℕ → ℕ → ℤ) (e : ℕ) wher
       (8192 * (ω a * ω b))
 
 -- ---- stages that agree on the grid have the same upwind values and tendencies
-module _ (g : Shape) (h : SmallGrid g) (c : ℕ → ℤ) (φ φ′ : ℕ → ℕ → ℤ) (same : (e k : ℕ) → e < elements g → k < 9 → φ e k ≡ φ′ e k) where
+module _ (g : Shape) (h : Admitted g) (c : ℕ → ℤ) (φ φ′ : ℕ → ℕ → ℤ) (same : (e k : ℕ) → e < elements g → k < 9 → φ e k ≡ φ′ e k) where
   line-lt : (b : Bool) (r : ℕ) → r < 3 → (cond b (node quadratic 2 r) (node quadratic r 2) < 9) × (cond b (node quadratic 0 r) (node quadratic r 0) < 9)
   line-lt true r l = (node-lt 2 r (omega arith) l, node-lt 0 r (omega arith) l)
   line-lt false r l = (node-lt r 2 l (omega arith), node-lt r 0 l (omega arith))
@@ -134,10 +134,10 @@ module _ (g : Shape) (c : ℕ → ℤ) (l : List ℤ) (e : ℕ) (h : Placed g e)
       (λ r. upwind-north-at g c l (northFace g e) e (north g e) r (looks-north g e) (behind-north g e (h .inside)) (ahead-north g e (h .inside)))
     where
       x : 0 < g .nx
-      x = h .small-grid .nx-above
+      x = h .admits .nx-above
 
       y : 0 < g .ny
-      y = h .small-grid .ny-above
+      y = h .admits .ny-above
 
       wl : west g e < elements g
       wl = west-lt g x y e (h .inside)
@@ -185,9 +185,9 @@ winds-small g wind e h k = record { all = each }
     face f l = (k .small f (omega arith), k .small (northFace g f) (omega arith))
 
     each : (i : ℕ) → Within 1024 (at (sideWinds g (windAt wind) e) i)
-    each zero = face (west g e) (west-lt g (h .small-grid .nx-above) (h .small-grid .ny-above) e (h .inside)) .0
+    each zero = face (west g e) (west-lt g (h .admits .nx-above) (h .admits .ny-above) e (h .inside)) .0
     each (suc zero) = face e (h .inside) .0
-    each (suc (suc zero)) = face (south g e) (south-lt g (h .small-grid .nx-above) (h .small-grid .ny-above) e (h .inside)) .1
+    each (suc (suc zero)) = face (south g e) (south-lt g (h .admits .nx-above) (h .admits .ny-above) e (h .inside)) .1
     each (suc (suc (suc zero))) = face e (h .inside) .1
     each (suc (suc (suc (suc i)))) = within-le (within-pos 0) (omega arith)
 

@@ -1,33 +1,22 @@
 -- Where the faces of a row stand in the report, and the lines of a row from there on.
-use mathlib.Core.Path.{_≡_, sym, ap, subst, _∙_}
-use mathlib.Core.Bool.{true}
+use mathlib.Core.Path.{_≡_, ap, _∙_}
 use mathlib.Core.List.{List}
-use Prim.Native.Nat.{ℕ, _+_, _*_, _≤_, _<_}
-use native.Mathlib.Nat.{mul-le-mul}
+use Prim.Native.Nat.{ℕ, _+_, _*_, _<_}
 use native.Mathlib.Omega.{arith}
-use lib.Dec.{T}
 use lib.IntN.{ℤ}
 use Rattle.whole.specs.Table.{blocks, at}
 use Rattle.whole.proofs.TableLaws.{blocks-cong}
 use Rattle.rules.specs.declared.Shape.{Shape}
 use Rattle.rules.specs.declared.Way.{Way}
 use Rattle.rules.specs.declared.Way.the-variants.{East, North}
-use Rattle.rules.specs.Field.{admitted, elements, element, faces}
+use Rattle.rules.specs.Field.{elements, Admitted}
 use Rattle.rules.specs.Grid.{faceIndex}
 use Rattle.rules.specs.Program.{faceLine, faceRow}
-use Rattle.rules.proofs.FieldLaws.{Ranges, ranges}
 use Rattle.rules.proofs.GridLaws.{element-lt}
 
-module _ (g : Shape) (a : admitted g ≡ true) where
-  bounds : Ranges g
-  bounds = ranges g (subst T (sym a) tt)
-
-  pub elements-le : elements g ≤ 4096
-  elements-le = mul-le-mul (bounds .nx-small) (bounds .ny-small)
-
-  -- the first element of a row
-  pub row-lt : (j : ℕ) → j < g .ny → j * g .nx < elements g
-  row-lt j h = omega (arith, element-lt g 0 j (bounds .nx-above) h)
+-- the first element of a row
+pub row-lt : (g : Shape) → Admitted g → (j : ℕ) → j < g .ny → j * g .nx < elements g
+row-lt g h j l = omega (arith, element-lt g 0 j (h .nx-above) l)
 
 -- the faces of a row follow one another
 pub face-is : (g : Shape) (way : Way) (i j : ℕ) → faceIndex g way 0 j + i ≡ faceIndex g way i j

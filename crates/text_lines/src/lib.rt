@@ -2,10 +2,9 @@
 // Every function here is a leaf: the buffer has room for the longest line, and the shape is admitted where it is asked for.
 // `grid_line`, `refused_line` and `tracer_lines` are what the program calls.
 ghost use mathlib.Core.Path.{_≡_};
-ghost use mathlib.Core.Bool.{true};
 ghost use Prim.Native.Nat.{_+_, _*_, _≤_, _<_};
 ghost use lib.ListN.{length};
-ghost use Rattle.rules.specs.Field.{admitted, faces};
+ghost use Rattle.rules.specs.Field.{faces, Admitted};
 ghost use Rattle.rules.specs.Grid.{faceIndex};
 ghost use Rattle.rules.specs.Program.{wayWord, gridLine, faceLine, totalLine, refusedLine, faceRow, faceLines, tracerLines};
 ghost use Rattle.text.specs.Added.{Added};
@@ -89,7 +88,7 @@ fn total_line(out: &mut [u8], at: usize, tracer: usize, total: u64) -> usize
 
 // Where the first face of row j that looks one way stands in the report.
 fn first_face(shape: Shape, way: Way, j: usize) -> usize
-    requires { ⌜ admitted shape ≡ true ⌝ }
+    requires { ⌜ Admitted shape ⌝ }
     requires { ⌜ j < shape .ny ⌝ }
     ensures { λ r. ⌜ r ≡ faceIndex shape way 0 j ⌝ }
 {
@@ -110,7 +109,7 @@ fn face_row(
     report: &[i32],
     j: usize,
 ) -> usize
-    requires { ⌜ admitted shape ≡ true ⌝ }
+    requires { ⌜ Admitted shape ⌝ }
     requires { ⌜ j < shape .ny ⌝ }
     requires { ⌜ faces shape ≤ length (now report) ⌝ }
     requires { ⌜ at + shape .nx * 96 ≤ length (now out) ⌝ }
@@ -133,7 +132,7 @@ fn face_lines(
     way: Way,
     report: &[i32],
 ) -> usize
-    requires { ⌜ admitted shape ≡ true ⌝ }
+    requires { ⌜ Admitted shape ⌝ }
     requires { ⌜ faces shape ≤ length (now report) ⌝ }
     requires { ⌜ at + shape .ny * (shape .nx * 96) ≤ length (now out) ⌝ }
     ensures { λ r. ⌜ Added (shape .ny * (shape .nx * 96)) at (faceLines shape tracer way (now (report .entry))) (now (out .entry)) (now (out .exit)) r ⌝ }
@@ -154,7 +153,7 @@ pub fn tracer_lines(
     report: &[i32],
     total: u64,
 ) -> usize
-    requires { ⌜ admitted shape ≡ true ⌝ }
+    requires { ⌜ Admitted shape ⌝ }
     requires { ⌜ faces shape ≤ length (now report) ⌝ }
     requires { ⌜ at + (2 * (shape .ny * (shape .nx * 96)) + 48) ≤ length (now out) ⌝ }
     ensures { λ r. ⌜ Added (2 * (shape .ny * (shape .nx * 96)) + 48) at (tracerLines shape tracer (now (report .entry)) total) (now (out .entry)) (now (out .exit)) r ⌝ }

@@ -1,27 +1,27 @@
 use mathlib.Core.Path.{ap}
 use native.Mathlib.Omega.{arith}
 use Rattle.rules.specs.Answers.{fileAnswer}
-use Rattle.field_layout.specs.Places.{Sized}
+use Rattle.rules.specs.Field.{Admitted}
 use Rattle.c_numbers.proofs.NumberLaws.{shape-le, shape-is, shape-refusal-is}
 use borrow.Author.Needs.{needs}
 use Rattle.c_numbers.proofs.shape_or.Statement.{statement}
 use Rattle.c_numbers.proofs.shape_or.Tie as tie
 
 -- the bounds of the shape that is answered
-bounds : (c : tie.After-answer) → Sized (c .answer .given .0 .0)
+bounds : (c : tie.After-answer) → Admitted (c .answer .given .0 .0)
 bounds c = c .before .before .pre .small (c .answer .given .0 .0) (ap fileAnswer (c .answer .given .1))
 
 mul-result : tie.Need-mul-result
-mul-result c = let h = bounds (c .before .before) in record { fits = omega (arith, h .ny) }
+mul-result c = let h = bounds (c .before .before) in record { fits = omega (arith, h .ny-small) }
 
 add-result : tie.Need-add-result
-add-result c = let h = bounds (c .before .before .before) in record { fits = omega (arith, h .nx, h .ny) }
+add-result c = let h = bounds (c .before .before .before) in record { fits = omega (arith, h .nx-small, h .ny-small) }
 
 mul-result-2 : tie.Need-mul-result-2
-mul-result-2 c = let h = bounds (c .before .before .before .before) in record { fits = omega (arith, h .tracers) }
+mul-result-2 c = let h = bounds (c .before .before .before .before) in record { fits = omega (arith, h .tracers-small) }
 
 add-result-2 : tie.Need-add-result-2
-add-result-2 c = let h = bounds (c .before .before .before .before) in record { fits = omega (arith, h .nx, h .ny, h .tracers) }
+add-result-2 c = let h = bounds (c .before .before .before .before) in record { fits = omega (arith, h .nx-small, h .ny-small, h .tracers-small) }
 
 cast-result : tie.Need-cast-result
 cast-result c = let b = c .before .before .before .before in record { sfits = omega (arith, shape-le (b .answer .given .0 .0) (bounds b)) }

@@ -8,7 +8,8 @@ use lib.IntN.{pos}
 use lib.ListN.{length, replicate}
 use Rattle.whole.specs.Table.{overwrite}
 use Rattle.rules.specs.Field.{quadratic, admitted, faces, fieldLength}
-use Rattle.field.proofs.WindFreshLoad.{sized-of, fresh-2, fresh-4-field, fresh-4-wind, fresh-done}
+use Rattle.rules.proofs.ShapeLaws.{admitted-is}
+use Rattle.field.proofs.WindFreshLoad.{fresh-2, fresh-4-field, fresh-4-wind, fresh-done}
 use Rattle.field.proofs.fresh.Statement.{statement}
 use Rattle.field.proofs.fresh.Tie as tie
 
@@ -29,10 +30,10 @@ room-wind : (c : tie.Else3) → faces (c .before .before .before .before .before
 room-wind c = omega (arith, c .before .before .faces .ensures)
 
 field-length-requires : tie.Need-field-length-requires
-field-length-requires c κs = sized-of _ (shape c)
+field-length-requires c κs = admitted-is _ (shape c)
 
 faces-requires : tie.Need-faces-requires
-faces-requires c κs = sized-of _ (shape (c .before))
+faces-requires c κs = admitted-is _ (shape (c .before))
 
 returns-2 : tie.Need-returns-2
 returns-2 c = fresh-4-field _ _ _ (shape (c .before .before .before)) (omega (arith, c .before .before .field-length .ensures))

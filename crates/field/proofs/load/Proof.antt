@@ -10,9 +10,10 @@ use Rattle.whole.specs.Table.{blocks}
 use Rattle.rules.specs.Field.{quadratic, admitted, elements, fieldLength, total}
 use Rattle.rules.specs.Calls.{loaded}
 use Rattle.rules.specs.Calls.{loadedElement}
-use Rattle.field_layout.proofs.PlaceLaws.{tracer-is, elements-le, field-le, field-is, tracer-room}
+use Rattle.rules.proofs.ShapeLaws.{admitted-is, elements-le}
+use Rattle.field_layout.proofs.PlaceLaws.{tracer-is, field-le, field-is, tracer-room}
 use Rattle.whole.proofs.OverwriteLaws.{part-size}
-use Rattle.field.proofs.WindFreshLoad.{sized-of, load-total, load-back, load-2, load-4-field, load-4-numbers, load-7, load-9, load-done}
+use Rattle.field.proofs.WindFreshLoad.{load-total, load-back, load-2, load-4-field, load-4-numbers, load-7, load-9, load-done}
 use Rattle.field.proofs.load.Statement.{statement}
 use Rattle.field.proofs.load.Tie as tie
 
@@ -39,17 +40,17 @@ summed c =
     (rw (c .before .before .before .before .elements .ensures) at (c .loaded-total .ensures)) ∙ sym (load-total (a .shape) (a .numbers .now))
 
 field-length-requires : tie.Need-field-length-requires
-field-length-requires c κs = sized-of _ (shape c)
+field-length-requires c κs = admitted-is _ (shape c)
 
 returns-2 : tie.Need-returns-2
 returns-2 c = load-4-field _ _ _ _ (shape (c .before .before)) (omega (arith, c .before .field-length .ensures))
 
 elements-requires : tie.Need-elements-requires
-elements-requires c κs = sized-of _ (shape (c .before .before))
+elements-requires c κs = admitted-is _ (shape (c .before .before))
 
 -- the sizes of an admitted shape
 small : (c : tie.After-elements) → c .elements .result ≤ 4096
-small c = let g = c .before .before .before .before .before .before .before .args .shape in omega (arith, c .elements .ensures, elements-le g (sized-of g (shape (c .before .before .before))))
+small c = let g = c .before .before .before .before .before .before .before .args .shape in omega (arith, c .elements .ensures, elements-le g (admitted-is g (shape (c .before .before .before))))
 
 mul-if3 : tie.Need-mul-if3
 mul-if3 c = omega (arith, small c)
@@ -67,20 +68,20 @@ returns-5 : tie.Need-returns-5
 returns-5 c = load-9 _ _ _ _ (shape (c .before .before .before .before .before .before .before .before)) (room (c .before .before .before .before .before .before)) (enough (c .before .before .before .before)) (c .before .before .if4 .left) (omega (arith, summed (c .before)))
 
 tracer-start-requires : tie.Need-tracer-start-requires
-tracer-start-requires c κs = (sized-of _ (shape (c .before .before .before .before .before .before .before .before)), c .before .before .if4 .left)
+tracer-start-requires c κs = (admitted-is _ (shape (c .before .before .before .before .before .before .before .before)), c .before .before .if4 .left)
 
 tracer-length-requires : tie.Need-tracer-length-requires
-tracer-length-requires c κs = sized-of _ (shape (c .before .before .before .before .before .before .before .before .before))
+tracer-length-requires c κs = admitted-is _ (shape (c .before .before .before .before .before .before .before .before .before))
 
 -- the part ends within the field
 end : (c : tie.After-tracer-length) → c .before .tracer-start .result + c .tracer-length .result ≤ fieldLength quadratic (c .before .before .before .before .before .before .before .before .before .before .before .before .before .before .args .shape)
 end c = let a = c .before .before .before .before .before .before .before .before .before .before .before .before .before .before .args in omega (arith, c .tracer-length .ensures, c .before .tracer-start .ensures, tracer-room (a .shape) (a .tracer) (c .before .before .before .before .if4 .left))
 
 add-end : tie.Need-add-end
-add-end c = let g = c .before .before .before .before .before .before .before .before .before .before .before .before .before .before .args .shape in omega (arith, end c, field-is g, field-le g (sized-of g (shape (c .before .before .before .before .before .before .before .before .before .before))))
+add-end c = let g = c .before .before .before .before .before .before .before .before .before .before .before .before .before .before .args .shape in omega (arith, end c, field-is g, field-le g (admitted-is g (shape (c .before .before .before .before .before .before .before .before .before .before))))
 
 mul-lay : tie.Need-mul-lay
-mul-lay c = let g = c .before .before .before .before .before .before .before .before .before .before .before .before .before .before .args .shape in omega (arith, end c, field-is g, field-le g (sized-of g (shape (c .before .before .before .before .before .before .before .before .before .before))))
+mul-lay c = let g = c .before .before .before .before .before .before .before .before .before .before .before .before .before .before .args .shape in omega (arith, end c, field-is g, field-le g (admitted-is g (shape (c .before .before .before .before .before .before .before .before .before .before))))
 
 part-lay-end : tie.Need-part-lay-end
 part-lay-end c = omega (arith, end c, room (c .before .before .before .before .before .before .before .before))

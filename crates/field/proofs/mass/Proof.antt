@@ -7,7 +7,7 @@ use native.Mathlib.Nat.{add-sub-cancel-left}
 use borrow.Author.Tests.{not-true, not-false}
 use lib.ListN.{length}
 use Rattle.rules.specs.Answers.{accepted, reading}
-use Rattle.rules.specs.Field.{quadratic, onGrid, mass}
+use Rattle.rules.specs.Field.{quadratic, onGrid}
 use Rattle.rules.specs.Calls.{totalReading}
 use Rattle.field_layout.specs.Places.{Inside, elementStart}
 use Rattle.field_layout.proofs.PlaceLaws.{element-ends}

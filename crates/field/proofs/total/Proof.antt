@@ -6,12 +6,11 @@ use native.Mathlib.Omega.{arith}
 use native.Mathlib.Nat.{add-sub-cancel-left}
 use borrow.Author.Tests.{not-true, not-false}
 use lib.ListN.{length, take, drop}
-use Rattle.rules.specs.Field.{quadratic, admitted, fieldLength, part}
-use Rattle.rules.proofs.FieldLaws.{ranges}
-use Rattle.field_layout.specs.Places.{Sized}
+use Rattle.rules.specs.Field.{quadratic, admitted, fieldLength, part, Admitted}
 use Rattle.field_search.specs.Search.{searched}
-use Rattle.field_layout.proofs.PlaceLaws.{sized, field-is, field-le, tracer-room}
+use Rattle.field_layout.proofs.PlaceLaws.{field-is, field-le, tracer-room}
 use Rattle.rules.proofs.PartLaws.{part-length}
+use Rattle.rules.proofs.ShapeLaws.{ranges}
 use Rattle.field.proofs.CheckLaws.{total-bad-shape, total-short, total-no-tracer, total-searched}
 use Rattle.field.proofs.total.Statement.{statement}
 use Rattle.field.proofs.total.Tie as tie
@@ -23,8 +22,8 @@ returns c = let a = c .before .before .before .args in sym (total-bad-shape (a .
 shape-is : (c : tie.Else1) → admitted (c .before .before .before .args .shape) ≡ true
 shape-is c = sym (c .before .admitted .ensures) ∙ not-false _ (c .if1 .left)
 
-small : (c : tie.Else1) → Sized (c .before .before .before .args .shape)
-small c = sized (ranges (c .before .before .before .args .shape) (rw (shape-is c) tt))
+small : (c : tie.Else1) → Admitted (c .before .before .before .args .shape)
+small c = (ranges (c .before .before .before .args .shape) (rw (shape-is c) tt))
 
 field-length-requires : tie.Need-field-length-requires
 field-length-requires c κs = small c

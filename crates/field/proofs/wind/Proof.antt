@@ -10,7 +10,8 @@ use mir.Val.{toZ, ofZ}
 use Rattle.rules.specs.Field.{admitted, faces, onGrid}
 use Rattle.rules.specs.Calls.{windInRange}
 use Rattle.rules.proofs.GridLaws.{face-lt}
-use Rattle.field.proofs.WindFreshLoad.{sized-of, inside-of, wind-2, wind-4, wind-5, wind-8, wind-done}
+use Rattle.rules.proofs.ShapeLaws.{admitted-is}
+use Rattle.field.proofs.WindFreshLoad.{inside-of, wind-2, wind-4, wind-5, wind-8, wind-done}
 use Rattle.field.proofs.wind.Statement.{statement}
 use Rattle.field.proofs.wind.Tie as tie
 
@@ -38,7 +39,7 @@ grid : (c : tie.Else4) → onGrid (c .before .before .before .before .before .be
 grid c = sym (c .before .on-grid .ensures) ∙ not-false _ (c .if4 .left)
 
 faces-requires : tie.Need-faces-requires
-faces-requires c κs = sized-of _ (shape c)
+faces-requires c κs = admitted-is _ (shape c)
 
 returns-2 : tie.Need-returns-2
 returns-2 c = wind-4 _ _ _ (shape (c .before .before)) (omega (arith, c .before .faces .ensures))

@@ -1,7 +1,7 @@
 use native.Mathlib.Omega.{arith}
-use Rattle.field_layout.proofs.PlaceLaws.{elements-le}
 use borrow.Author.Needs.{needs}
 use Rattle.field_layout.proofs.elements.Statement.{statement}
+use Rattle.rules.proofs.ShapeLaws.{elements-le}
 use Rattle.field_layout.proofs.elements.Tie as tie
 
 mul-result : tie.Need-mul-result

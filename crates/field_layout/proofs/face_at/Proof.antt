@@ -4,7 +4,7 @@ use borrow.Author.Needs.{needs}
 use Prim.Native.Nat.{_+_}
 use Rattle.rules.specs.Field.{element}
 use Rattle.rules.proofs.GridLaws.{element-lt}
-use Rattle.field_layout.proofs.PlaceLaws.{elements-le}
+use Rattle.rules.proofs.ShapeLaws.{elements-le}
 use Rattle.field_layout.proofs.face_at.Statement.{statement}
 use Rattle.field_layout.proofs.face_at.Tie as tie
 
@@ -12,22 +12,22 @@ mul-e : tie.Need-mul-e
 mul-e c =
     let a = c .before .before .args in
     let h = c .before .before .pre in
-    record { fits = omega (arith, element-lt (a .shape) (a .face .i) (a .face .j) (h .column) (h .row), elements-le (a .shape) (h .sized)) }
+    record { fits = omega (arith, element-lt (a .shape) (a .face .i) (a .face .j) (h .column) (h .row), elements-le (a .shape) (h .admits)) }
 
 add-e : tie.Need-add-e
 add-e c =
     let a = c .before .before .before .args in
     let h = c .before .before .before .pre in
-    record { fits = omega (arith, element-lt (a .shape) (a .face .i) (a .face .j) (h .column) (h .row), elements-le (a .shape) (h .sized)) }
+    record { fits = omega (arith, element-lt (a .shape) (a .face .i) (a .face .j) (h .column) (h .row), elements-le (a .shape) (h .admits)) }
 
 elements-requires : tie.Need-elements-requires
-elements-requires c κs = c .before .before .before .before .before .pre .sized
+elements-requires c κs = c .before .before .before .before .before .pre .admits
 
 add-result : tie.Need-add-result
 add-result c =
     let a = c .before .before .before .before .before .before .args in
     let h = c .before .before .before .before .before .before .pre in
-    record { fits = omega (arith, c .elements .ensures, element-lt (a .shape) (a .face .i) (a .face .j) (h .column) (h .row), elements-le (a .shape) (h .sized)) }
+    record { fits = omega (arith, c .elements .ensures, element-lt (a .shape) (a .face .i) (a .face .j) (h .column) (h .row), elements-le (a .shape) (h .admits)) }
 
 returns : tie.Need-returns
 returns c = rw (c .enum-told .given .1)

@@ -1,7 +1,7 @@
 use native.Mathlib.Omega.{arith}
 use borrow.Author.Needs.{needs}
-use Rattle.field_layout.proofs.PlaceLaws.{elements-le}
 use Rattle.field_layout.proofs.faces.Statement.{statement}
+use Rattle.rules.proofs.ShapeLaws.{elements-le}
 use Rattle.field_layout.proofs.faces.Tie as tie
 
 add-result : tie.Need-add-result

@@ -2,8 +2,9 @@ use mathlib.Core.Path.{sym, ap, _∙_}
 use native.Mathlib.Omega.{arith}
 use borrow.Author.Needs.{needs}
 use Prim.Native.Nat.{_*_}
-use Rattle.field_layout.proofs.PlaceLaws.{elements-le, tracer-is}
+use Rattle.field_layout.proofs.PlaceLaws.{tracer-is}
 use Rattle.field_layout.proofs.tracer_length.Statement.{statement}
+use Rattle.rules.proofs.ShapeLaws.{elements-le}
 use Rattle.field_layout.proofs.tracer_length.Tie as tie
 
 mul-result : tie.Need-mul-result

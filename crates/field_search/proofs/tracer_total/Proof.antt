@@ -11,8 +11,9 @@ use Rattle.whole.specs.Sum.{sum, all}
 use Rattle.rules.specs.Field.{limit}
 use Rattle.field_search.specs.Search.{searched}
 use Rattle.rules.specs.Answers.{accepted, refused}
+use Rattle.rules.proofs.ShapeLaws.{elements-le, row-room, row-more}
 use Rattle.field_elements.proofs.ElementLaws.{numbersSum, numbers-more, weight-le}
-use Rattle.field_layout.proofs.PlaceLaws.{tracer-is, elements-le, row-room, row-more}
+use Rattle.field_layout.proofs.PlaceLaws.{tracer-is}
 use Rattle.field_search.proofs.SearchLaws.{soundTo, totalTo, sound-next, total-next, searched-sound, searched-remainder, searched-excess}
 use Rattle.field_search.proofs.tracer_total.Statement.{statement}
 use Rattle.field_search.proofs.tracer_total.Tie as tie

@@ -3,7 +3,8 @@ use native.Mathlib.Omega.{arith}
 use Prim.Native.Nat.{_-_, _*_, _≤_}
 use borrow.Author.Needs.{needs}
 use Rattle.rules.specs.Field.{quadratic}
-use Rattle.field_layout.proofs.PlaceLaws.{elements-le, tracer-le}
+use Rattle.rules.proofs.ShapeLaws.{elements-le}
+use Rattle.field_layout.proofs.PlaceLaws.{tracer-le}
 use Rattle.file_layout.proofs.LayoutLaws.{wind-start, start-of, tracers-le}
 use Rattle.file_layout.proofs.section_start.Statement.{statement}
 use Rattle.file_layout.proofs.section_start.Tie as tie
@@ -19,7 +20,7 @@ mul-result-2 c = let b = c .before .before .before in record { fits = omega (ari
 
 -- the tracers before section i
 before : (c : tie.After-tracer-length) → (c .before .before .before .args .i - 1) * (4 * c .tracer-length .result) ≤ 1310720
-before c = let b = c .before .before .before in rw (c .tracer-length .ensures) (tracers-le (b .args .shape) (b .args .i - 1) (b .pre .0) (omega (arith, b .pre .1, b .pre .0 .tracers)))
+before c = let b = c .before .before .before in rw (c .tracer-length .ensures) (tracers-le (b .args .shape) (b .args .i - 1) (b .pre .0) (omega (arith, b .pre .1, b .pre .0 .tracers-small)))
 
 mul-result-3 : tie.Need-mul-result-3
 mul-result-3 c = record { fits = omega (arith, before c) }

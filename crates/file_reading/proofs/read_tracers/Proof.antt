@@ -7,7 +7,8 @@ use lib.ListN.{length, drop}
 use Rattle.whole.specs.Table.{table, overwrite}
 use Rattle.whole.proofs.OverwriteLaws.{part-size, filled-front}
 use Rattle.rules.specs.Field.{quadratic, tracerLength, fieldLength}
-use Rattle.field_layout.proofs.PlaceLaws.{tracer-room, field-is, field-le, row-more}
+use Rattle.rules.proofs.ShapeLaws.{row-more}
+use Rattle.field_layout.proofs.PlaceLaws.{tracer-room, field-is, field-le}
 use Rattle.file_layout.proofs.LayoutLaws.{tracer-span}
 use Rattle.file_reading.proofs.ReadLaws.{fieldNumber, field-numbers, tracer-read}
 use Rattle.file_reading.proofs.read_tracers.Statement.{statement}

@@ -2,8 +2,7 @@ use mathlib.Core.Path.{sym, ap, _∙_}
 use borrow.Author.Needs.{needs}
 use Rattle.rules.specs.Answers.{reading}
 use Rattle.rules.specs.Field.{quadratic}
-use Rattle.rules.proofs.FieldLaws.{ranges}
-use Rattle.field_layout.proofs.PlaceLaws.{sized}
+use Rattle.rules.proofs.ShapeLaws.{ranges}
 use Rattle.file_layout.proofs.ReplyLaws.{Writable, write-shown, file-written, file-kept}
 use Rattle.file_writing.proofs.write.Statement.{statement}
 use Rattle.file_writing.proofs.write.Tie as tie
@@ -17,7 +16,7 @@ shown c =
 write-parts-requires : tie.Need-write-parts-requires
 write-parts-requires c κs =
     let w = shown (c .before) in
-    (sized (ranges (c .before .before .before .before .before .before .before .before .args .shape) (w .ranges)), (w .out-room, (w .field-room, w .wind-room)))
+    ((ranges (c .before .before .before .before .before .before .before .before .args .shape) (w .ranges)), (w .out-room, (w .field-room, w .wind-room)))
 
 returns : tie.Need-returns
 returns c =

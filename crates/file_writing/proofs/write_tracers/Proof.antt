@@ -9,7 +9,8 @@ use Rattle.whole.specs.Table.{blocks, overwrite}
 use Rattle.whole.proofs.OverwriteLaws.{part-size}
 use Rattle.rules.specs.Field.{quadratic, fieldLength}
 use Rattle.rules.specs.FieldFile.{bytes32}
-use Rattle.field_layout.proofs.PlaceLaws.{elements-le, field-is}
+use Rattle.rules.proofs.ShapeLaws.{elements-le}
+use Rattle.field_layout.proofs.PlaceLaws.{field-is}
 use Rattle.file_writing.proofs.WritingLaws.{ends, written-length, next-tracer}
 use Rattle.file_writing.proofs.write_tracers.Statement.{statement}
 use Rattle.file_writing.proofs.write_tracers.Tie as tie

@@ -2,12 +2,12 @@ use mathlib.Core.Path.{sym, ap, _∙_}
 use Prim.Native.Nat.{_≤_}
 use native.Mathlib.Omega.{arith}
 use Rattle.rules.specs.Answers.{fileAnswer}
-use Rattle.rules.specs.Field.{quadratic, admitted, faces}
+use Rattle.rules.specs.Field.{quadratic, faces}
 use Rattle.rules.specs.Program.{refusedLine}
+use Rattle.rules.proofs.ShapeLaws.{ranges}
 use Rattle.file_layout.proofs.ReplyLaws.{read-shown}
 use Rattle.output.proofs.Laws.{added-of, refusal-of}
 use Rattle.output.proofs.TextLaws.{front-added, end-le, long-printed, refused-printed, text-printed, text-is, refusal-text, text-fits}
-use Rattle.whole.proofs.Cases.{true-of}
 use borrow.Author.Needs.{needs}
 use Rattle.output.proofs.fill.Statement.{statement}
 use Rattle.output.proofs.fill.Tie as tie
@@ -26,7 +26,7 @@ tracers-requires c κs =
     let g = c .before .before .before .before .before .before .answer2 .given .0 .0 in
     let s = read-shown quadratic g (b .args .file .now) (b .args .field .now) (b .args .wind .now) (sym (r .read .ensures .0) ∙ ap fileAnswer (c .before .before .before .before .before .before .answer2 .given .1)) in
     let few : faces g ≤ 256 = omega (arith, s .wind-room, b .pre .0) in
-    (true-of (admitted g) (s .ranges), (b .pre .1 .0, (b .pre .1 .1 .0, (few, omega (arith, text-fits g (s .ranges) few, b .pre .1 .1 .1)))))
+    (ranges g (s .ranges), (b .pre .1 .0, (b .pre .1 .1 .0, (few, omega (arith, text-fits g (s .ranges) few, b .pre .1 .1 .1)))))
 
 refused-line-requires-3 : tie.Need-refused-line-requires-3
 refused-line-requires-3 c κs = omega (arith, c .before .before .before .before .before .before .before .before .before .before .out3 .given, c .before .before .before .before .before .before .before .before .before .before .before .before .before .before .before .before .before .before .before .before .before .before .before .before .before .before .before .before .before .before .pre .1 .1 .1)

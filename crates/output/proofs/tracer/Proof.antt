@@ -35,7 +35,7 @@ returns-3 c =
     record {
       text = _;
       is = lines-accepted (b .args .shape) (b .args .wind .now) (b .args .tracer) (b .args .field .now) _ _ (b .pre .1 .0) (b .pre .1 .1 .0) e n _ (t .step .ensures .1 .0) q;
-      added = same-bytes (lines-are (b .args .shape) (b .args .wind .now) (b .args .tracer) (b .args .field .now) _ _ (b .pre .1 .0) (b .pre .1 .1 .0) e n (b .pre .0) (b .args .report .now) _ (t .step .ensures .1 .1 .0) (omega (arith, b .pre .1 .0, b .pre .1 .1 .1 .0))) (c .before .before .tracer-lines .ensures);
+      added = same-bytes (lines-are (b .args .shape) (b .args .wind .now) (b .args .tracer) (b .args .field .now) _ _ (b .pre .1 .0) (b .pre .1 .1 .0) e n (b .args .report .now) _ (t .step .ensures .1 .1 .0) (omega (arith, b .pre .1 .0, b .pre .1 .1 .1 .0))) (c .before .before .tracer-lines .ensures);
     }
 
 pub tracer-spec : {M : Type 1} → statement M

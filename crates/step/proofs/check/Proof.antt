@@ -7,11 +7,9 @@ use lib.Dec.{T, leb→le, leb}
 use lib.ListN.{length}
 use Rattle.whole.proofs.Cases.{both-yes}
 use Rattle.rules.specs.Answers.{plain, reading}
-use Rattle.rules.specs.Field.{quadratic, admitted, faces, fieldLength}
+use Rattle.rules.specs.Field.{quadratic, admitted, faces, fieldLength, Admitted}
 use Rattle.rules.specs.Calls.{windSound}
-use Rattle.rules.proofs.FieldLaws.{ranges}
-use Rattle.field_layout.specs.Places.{Sized}
-use Rattle.field_layout.proofs.PlaceLaws.{sized}
+use Rattle.rules.proofs.ShapeLaws.{ranges}
 use Rattle.step.proofs.CheckLaws.{enough, step-2, step-4, step-5, step-refused, step-accepted}
 use Rattle.step.proofs.check.Statement.{statement}
 use Rattle.step.proofs.check.Tie as tie
@@ -26,8 +24,8 @@ returns c =
 shape-is : (c : tie.Else1) → admitted (c .before .before .before .args .shape) ≡ true
 shape-is c = sym (c .before .admitted .ensures) ∙ not-false _ (c .if1 .left)
 
-small : (c : tie.Else1) → Sized (c .before .before .before .args .shape)
-small c = sized (ranges (c .before .before .before .args .shape) (rw (shape-is c) tt))
+small : (c : tie.Else1) → Admitted (c .before .before .before .args .shape)
+small c = (ranges (c .before .before .before .args .shape) (rw (shape-is c) tt))
 
 lent-enough-requires : tie.Need-lent-enough-requires
 lent-enough-requires c κs = small c

@@ -1,8 +1,8 @@
 use mathlib.Core.Path.{refl}
 use borrow.Author.Tests.{lt-leb, le-leb}
 use native.Mathlib.Omega.{arith}
-use Rattle.field_layout.proofs.PlaceLaws.{elements-le}
 use Rattle.step.proofs.lent_enough.Statement.{statement}
+use Rattle.rules.proofs.ShapeLaws.{elements-le}
 use Rattle.step.proofs.lent_enough.Tie as tie
 
 field-length-requires : tie.Need-field-length-requires

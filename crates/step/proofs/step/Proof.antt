@@ -14,8 +14,9 @@ use Rattle.whole.specs.Table.{overwrite}
 use Rattle.rules.proofs.PartLaws.{part-length}
 use Rattle.rules.proofs.StepLaws.{length-after}
 use Rattle.rules.specs.Stages.{stages}
+use Rattle.rules.proofs.ShapeLaws.{elements-le}
 use Rattle.field.proofs.CheckLaws.{call-refused, call-accepted}
-use Rattle.field_layout.proofs.PlaceLaws.{sized, elements-le, tracer-is, field-is, field-le, tracer-room}
+use Rattle.field_layout.proofs.PlaceLaws.{tracer-is, field-is, field-le, tracer-room}
 use Rattle.step.proofs.CheckLaws.{Stepping, stepping, plain-refused, report-refused, report-accepted, work-refused, work-accepted, part-back}
 use Rattle.step.proofs.step.Statement.{statement}
 use Rattle.step.proofs.step.Tie as tie
@@ -34,10 +35,10 @@ facts : (c : tie.After-enum-told) → Stepping (c .before .before .before .befor
 facts c = stepping (c .before .before .before .before .before .args .shape) (c .before .before .before .before .before .args .tracer) (c .before .before .before .before .before .args .field .now) (c .before .before .before .before .before .args .wind .now) (length (c .before .before .before .before .before .args .report .now)) (length (c .before .before .before .before .before .args .work .now)) (sym (c .before .before .check .ensures) ∙ ap outcome (c .enum-told .given .1))
 
 tracer-start-requires : tie.Need-tracer-start-requires
-tracer-start-requires c κs = let h = facts c in (sized (h .shape), h .tracer)
+tracer-start-requires c κs = let h = facts c in ((h .shape), h .tracer)
 
 tracer-length-requires : tie.Need-tracer-length-requires
-tracer-length-requires c κs = sized (facts (c .before) .shape)
+tracer-length-requires c κs = (facts (c .before) .shape)
 
 -- the tracer's part ends within the field, and what is lent is that part
 ends : (c : tie.After-tracer-length) → (c .before .tracer-start .result + c .tracer-length .result ≤ length (c .before .before .before .before .before .before .before .args .field .now)) × (c .before .tracer-start .result + c .tracer-length .result ≤ 327680)
@@ -45,7 +46,7 @@ ends c =
     let a = c .before .before .before .before .before .before .before .args in
     let h = facts (c .before .before) in
     let r = tracer-room (a .shape) (a .tracer) (h .tracer) in
-    (omega (arith, r, h .room, c .before .tracer-start .ensures, c .tracer-length .ensures), omega (arith, r, field-is (a .shape), field-le (a .shape) (sized (h .shape)), c .before .tracer-start .ensures, c .tracer-length .ensures))
+    (omega (arith, r, h .room, c .before .tracer-start .ensures, c .tracer-length .ensures), omega (arith, r, field-is (a .shape), field-le (a .shape) ((h .shape)), c .before .tracer-start .ensures, c .tracer-length .ensures))
 
 lent-is : (c : tie.After-tracer-length) → take (c .before .tracer-start .result + c .tracer-length .result - c .before .tracer-start .result) (drop (c .before .tracer-start .result) (c .before .before .before .before .before .before .before .args .field .now)) ≡ part quadratic (c .before .before .before .before .before .before .before .args .shape) (c .before .before .before .before .before .before .before .args .tracer) (c .before .before .before .before .before .before .before .args .field .now)
 unfolding part
@@ -55,10 +56,10 @@ add-end : tie.Need-add-end
 add-end c = record { fits = omega (arith, ends c) }
 
 elements-requires : tie.Need-elements-requires
-elements-requires c κs = sized (facts (c .before .before) .shape)
+elements-requires c κs = (facts (c .before .before) .shape)
 
 mul-needed : tie.Need-mul-needed
-mul-needed c = record { fits = omega (arith, c .elements .ensures, elements-le (c .before .before .before .before .before .before .before .before .args .shape) (sized (facts (c .before .before .before) .shape))) }
+mul-needed c = record { fits = omega (arith, c .elements .ensures, elements-le (c .before .before .before .before .before .before .before .before .args .shape) ((facts (c .before .before .before) .shape))) }
 
 mul-step : tie.Need-mul-step
 mul-step c = omega (arith, ends (c .before))
@@ -90,7 +91,7 @@ step-requires c κs =
     let t = c .before .before .before .before in
     let a = c .before .before .before .before .before .before .before .before .before .before .before .args in
     let h = facts (c .before .before .before .before .before .before) in
-    (h .small-grid, (ap length (lent-is t) ∙ part-length quadratic (a .shape) (a .tracer) (a .field .now) (h .tracer) (h .room) ∙ tracer-is (a .shape), (omega (arith, ap (total quadratic (a .shape)) (lent-is t), h .within-limit), (h .wind-range, (h .reports, omega (arith, lent-long (c .before .before .before), c .before .before .before .elements .ensures))))))
+    (h .shape, (ap length (lent-is t) ∙ part-length quadratic (a .shape) (a .tracer) (a .field .now) (h .tracer) (h .room) ∙ tracer-is (a .shape), (omega (arith, ap (total quadratic (a .shape)) (lent-is t), h .within-limit), (h .wind-range, (h .reports, omega (arith, lent-long (c .before .before .before), c .before .before .before .elements .ensures))))))
 
 same-length : tie.Need-same-length
 same-length c = search needs
@@ -132,7 +133,7 @@ returns-2 c =
       q .0,
       (
         part-back (a .shape) (a .tracer) (s .result) (s .result + n - s .result) _ (tracerStep quadratic (a .shape) w p .part) (a .field .now) (s .ensures) (add-sub-cancel-left (s .result) n ∙ t .tracer-length .ensures)
-            (d .0 ∙ ap (λ x. tracerStep quadratic (a .shape) w x .part) (lent-is t)) (length-after quadratic (a .shape) (h .small-grid .nx-above) (h .small-grid .ny-above) w p (stages quadratic (a .shape) w p)) ∙ q .1,
+            (d .0 ∙ ap (λ x. tracerStep quadratic (a .shape) w x .part) (lent-is t)) (length-after quadratic (a .shape) (h .shape .nx-above) (h .shape .ny-above) w p (stages quadratic (a .shape) w p)) ∙ q .1,
         (d .1 ∙ ap (λ x. overwrite 0 (tracerStep quadratic (a .shape) w x .report) (a .report .now)) (lent-is t) ∙ report-accepted _ _ (a .report .now) e, work-accepted (a .shape) _ _ (a .work .now) x _ e (ap (λ k. x ++ drop (64 * k) (a .work .now)) (m .elements .ensures)) (back ∙ lent-long m ∙ ap (λ k. 64 * k) (m .elements .ensures)) (same-length-4 c)),
       ),
     )

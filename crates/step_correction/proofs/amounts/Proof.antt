@@ -14,8 +14,8 @@ use Rattle.whole.proofs.OverwriteLaws.{part-size}
 use Rattle.whole.proofs.Sizes.{read-back}
 use Rattle.whole.proofs.WrittenLaws.{written-none, written-next, written-moved, part-kept}
 use Rattle.rules.specs.Field.{quadratic, elements, faces, mass}
+use Rattle.rules.proofs.ShapeLaws.{elements-le}
 use Rattle.step_grid.specs.Place.{Placed}
-use Rattle.step_grid.proofs.Laws.{elements-le}
 use Rattle.step_correction.specs.Amounts.{fluxesAt, massesAt, lentFluxes, localOutflow}
 use Rattle.step_correction.proofs.Laws.{mass-part}
 use Rattle.step_correction.proofs.amounts.Statement.{statement}
@@ -52,7 +52,7 @@ loop-holds : tie.Need-loop-holds Inv-loop μ-loop
 loop-holds c = (omega arith, omega arith, written-none _ _ _ _ _)
 
 placed : (c : tie.In-loop Inv-loop μ-loop) → Placed (c .before .before .before .before .args .shape) (c .before .loop .e)
-placed c = record { small-grid = c .before .before .before .before .pre .0; inside = omega arith }
+placed c = record { admits = c .before .before .before .before .pre .0; inside = omega arith }
 
 -- the element's numbers are within the part
 ends : (c : tie.In-loop Inv-loop μ-loop) → (c .before .loop .start + 10 ≤ length (c .before .before .before .before .args .part .now)) × (c .before .loop .start + 10 ≤ 40960)

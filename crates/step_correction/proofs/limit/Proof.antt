@@ -8,10 +8,9 @@ use Rattle.whole.specs.Written.{Written}
 use Rattle.whole.proofs.Sizes.{sizes, exacts, fits, exact}
 use Rattle.whole.proofs.WrittenLaws.{written-none, written-store, written-moved}
 use Rattle.rules.specs.Field.{elements, northFace}
-use Rattle.rules.specs.Grid.{east, north}
 use Rattle.rules.proofs.GridLaws.{east-lt, north-lt}
+use Rattle.rules.proofs.ShapeLaws.{elements-le}
 use Rattle.step_grid.specs.Place.{Placed}
-use Rattle.step_grid.proofs.Laws.{elements-le}
 use Rattle.step_correction.specs.Amounts.{limitedFace, limitedEast, limitedNorth}
 use Rattle.step_correction.proofs.limit.Statement.{statement}
 use Rattle.step_correction.proofs.limit.Tie as tie
@@ -29,7 +28,7 @@ loop-holds : tie.Need-loop-holds Inv-loop μ-loop
 loop-holds c = (omega arith, written-none _ _ _ _ _)
 
 placed : (c : tie.In-loop Inv-loop μ-loop) → Placed (c .before .before .before .args .shape) (c .before .loop .e)
-placed c = record { small-grid = c .before .before .before .pre .0; inside = omega arith }
+placed c = record { admits = c .before .before .before .pre .0; inside = omega arith }
 
 small : (c : tie.In-loop Inv-loop μ-loop) → elements (c .before .before .before .args .shape) ≤ 4096
 small c = elements-le (c .before .before .before .args .shape) (c .before .before .before .pre .0)
@@ -42,7 +41,7 @@ limited-face-requires c κs =
     let i = c .before in
     let b = i .before .before .before in
     let p = placed i in
-    (b .pre .0, (b .pre .1 .0, (omega (arith, p .inside), (p .inside, omega (arith, c .east .ensures, east-lt (b .args .shape) (p .small-grid .nx-above) (p .small-grid .ny-above) (i .before .loop .e) (p .inside))))))
+    (b .pre .0, (b .pre .1 .0, (omega (arith, p .inside), (p .inside, omega (arith, c .east .ensures, east-lt (b .args .shape) (p .admits .nx-above) (p .admits .ny-above) (i .before .loop .e) (p .inside))))))
 
 add-limited-face : tie.Need-add-limited-face Inv-loop μ-loop
 add-limited-face c = let i = c .before .before in record { fits = omega (arith, placed i .inside, small i) }
@@ -55,7 +54,7 @@ limited-face-requires-2 c κs =
     let i = c .before .before .before in
     let b = i .before .before .before in
     let p = placed i in
-    (b .pre .0, (b .pre .1 .0, (omega (arith, p .inside), (p .inside, omega (arith, c .north .ensures, north-lt (b .args .shape) (p .small-grid .nx-above) (p .small-grid .ny-above) (i .before .loop .e) (p .inside))))))
+    (b .pre .0, (b .pre .1 .0, (omega (arith, p .inside), (p .inside, omega (arith, c .north .ensures, north-lt (b .args .shape) (p .admits .nx-above) (p .admits .ny-above) (i .before .loop .e) (p .inside))))))
 
 -- the limited fluxes of a turn, which fit the report
 east-made : (c : tie.After-limited-face Inv-loop μ-loop) → Are 100000000 (c .limited-face .result) (limitedEast (c .before .before .before .before .before .args .shape) (c .before .before .before .before .before .args .work .now) (c .before .before .before .loop .e))

@@ -14,7 +14,7 @@ use Rattle.whole.proofs.Cases.{cond-ind}
 use Rattle.whole.proofs.Sizes.{back-is, read-back, are-eq}
 use Rattle.rules.specs.Field.{elements}
 use Rattle.rules.specs.Correction.{cut}
-use Rattle.step_grid.proofs.Laws.{elements-le}
+use Rattle.rules.proofs.ShapeLaws.{elements-le}
 use Rattle.step_correction.specs.Amounts.{NotNegative, fluxesAt, massesAt, outflowsAt, limitedFace}
 use Rattle.step_correction.proofs.limited_face.Statement.{statement}
 use Rattle.step_correction.proofs.limited_face.Tie as tie

@@ -9,13 +9,13 @@ use Rattle.whole.specs.Parts.{positive, negative}
 use Rattle.whole.proofs.Sizes.{sizes, fits, within, are-eq, back-is}
 use Rattle.rules.specs.Field.{elements}
 use Rattle.rules.proofs.GridLaws.{west-lt, south-lt}
-use Rattle.step_grid.proofs.Laws.{elements-le}
+use Rattle.rules.proofs.ShapeLaws.{elements-le}
 use Rattle.step_correction.proofs.Laws.{added}
 use Rattle.step_correction.proofs.outflow.Statement.{statement}
 use Rattle.step_correction.proofs.outflow.Tie as tie
 
 mul-n : tie.Need-mul-n
-mul-n c = record { fits = omega (arith, elements-le (c .before .args .shape) (c .before .pre .0 .small-grid)) }
+mul-n c = record { fits = omega (arith, elements-le (c .before .args .shape) (c .before .pre .0 .admits)) }
 
 west-requires : tie.Need-west-requires
 west-requires c κs = c .before .pre .0
@@ -27,7 +27,7 @@ south-requires c κs = c .before .before .pre .0
 inside : (c : tie.After-south) → (c .before .west .result < elements (c .before .before .before .args .shape)) × (c .south .result < elements (c .before .before .before .args .shape)) × (c .before .before .before .args .e < elements (c .before .before .before .args .shape)) × (elements (c .before .before .before .args .shape) ≤ 4096) × (length (c .before .before .before .args .fluxes .now) ≡ elements (c .before .before .before .args .shape) + elements (c .before .before .before .args .shape))
 inside c =
     let b = c .before .before .before in
-    let f = b .pre .0 .small-grid in (
+    let f = b .pre .0 .admits in (
       omega (arith, c .before .west .ensures, west-lt (b .args .shape) (f .nx-above) (f .ny-above) (b .args .e) (b .pre .0 .inside)),
       omega (arith, c .south .ensures, south-lt (b .args .shape) (f .nx-above) (f .ny-above) (b .args .e) (b .pre .0 .inside)),
       b .pre .0 .inside,

@@ -14,8 +14,8 @@ use Rattle.rules.specs.Field.{elements, northFace}
 use Rattle.rules.specs.Grid.{east, north}
 use Rattle.rules.specs.Calls.{windAt}
 use Rattle.rules.proofs.GridLaws.{east-lt, north-lt}
+use Rattle.rules.proofs.ShapeLaws.{elements-le}
 use Rattle.step_grid.specs.Place.{Placed}
-use Rattle.step_grid.proofs.Laws.{elements-le}
 use Rattle.step_stages.specs.Advance.{section}
 use Rattle.step_fluxes.specs.Face.{Staged, faceFlux, eastFlux, northFlux}
 use Rattle.step_fluxes.proofs.Laws.{flux-kept}
@@ -48,7 +48,7 @@ loop-holds c = (omega arith, written-none _ _ _ _ _)
 
 -- a turn's element, and the stages, which are as they were
 placed : (c : tie.In-loop Inv-loop μ-loop) → Placed (c .before .before .before .args .shape) (c .before .loop .e)
-placed c = record { small-grid = c .before .before .before .pre .0; inside = omega arith }
+placed c = record { admits = c .before .before .before .pre .0; inside = omega arith }
 
 stages-kept : (c : tie.In-loop Inv-loop μ-loop) (i : ℕ) → i < 3 * section (c .before .before .before .args .shape) → at (c .before .loop .work) i ≡ at (c .before .before .before .args .work .now) i
 stages-kept c i h = c .before .loop .inv .1 .kept i (λ p q. omega arith) (λ p q. omega arith)
@@ -59,10 +59,10 @@ staged c =
     record { long = omega (arith, h .long, c .before .loop .inv .1 .long); small = λ i q. subst (Within 1700000000) (sym (stages-kept c i q)) (h .small i q) }
 
 east-inside : (c : tie.In-loop Inv-loop μ-loop) → east (c .before .before .before .args .shape) (c .before .loop .e) < elements (c .before .before .before .args .shape)
-east-inside c = let p = placed c in east-lt (c .before .before .before .args .shape) (p .small-grid .nx-above) (p .small-grid .ny-above) (c .before .loop .e) (p .inside)
+east-inside c = let p = placed c in east-lt (c .before .before .before .args .shape) (p .admits .nx-above) (p .admits .ny-above) (c .before .loop .e) (p .inside)
 
 north-inside : (c : tie.In-loop Inv-loop μ-loop) → north (c .before .before .before .args .shape) (c .before .loop .e) < elements (c .before .before .before .args .shape)
-north-inside c = let p = placed c in north-lt (c .before .before .before .args .shape) (p .small-grid .nx-above) (p .small-grid .ny-above) (c .before .loop .e) (p .inside)
+north-inside c = let p = placed c in north-lt (c .before .before .before .args .shape) (p .admits .nx-above) (p .admits .ny-above) (c .before .loop .e) (p .inside)
 
 shared-slice-copy-out-face-flux : tie.Need-shared-slice-copy-out-face-flux Inv-loop μ-loop
 shared-slice-copy-out-face-flux c = let i = c .before in omega (arith, placed i .inside, i .before .before .before .pre .1 .0 .long)

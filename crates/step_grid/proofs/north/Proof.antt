@@ -1,20 +1,21 @@
 use native.Mathlib.Omega.{arith}
 use borrow.Author.Needs.{needs}
-use Rattle.step_grid.proofs.Laws.{elements-le, north-next, north-last}
+use Rattle.step_grid.proofs.Laws.{north-next, north-last}
 use Rattle.step_grid.proofs.north.Statement.{statement}
+use Rattle.rules.proofs.ShapeLaws.{elements-le}
 use Rattle.step_grid.proofs.north.Tie as tie
 
 mul-n : tie.Need-mul-n
-mul-n c = record { fits = omega (arith, elements-le (c .before .args .shape) (c .before .pre .small-grid)) }
+mul-n c = record { fits = omega (arith, elements-le (c .before .args .shape) (c .before .pre .admits)) }
 
 add-if1 : tie.Need-add-if1
-add-if1 c = let b = c .before in record { fits = omega (arith, b .pre .inside, elements-le (b .args .shape) (b .pre .small-grid), b .pre .small-grid .nx-small) }
+add-if1 c = let b = c .before in record { fits = omega (arith, b .pre .inside, elements-le (b .args .shape) (b .pre .admits), b .pre .admits .nx-small) }
 
 add-result : tie.Need-add-result
-add-result c = let b = c .before .before in record { fits = omega (arith, b .pre .inside, elements-le (b .args .shape) (b .pre .small-grid), b .pre .small-grid .nx-small) }
+add-result c = let b = c .before .before in record { fits = omega (arith, b .pre .inside, elements-le (b .args .shape) (b .pre .admits), b .pre .admits .nx-small) }
 
 add-result-2 : tie.Need-add-result-2
-add-result-2 c = let b = c .before .before in record { fits = omega (arith, b .pre .inside, elements-le (b .args .shape) (b .pre .small-grid), b .pre .small-grid .nx-small) }
+add-result-2 c = let b = c .before .before in record { fits = omega (arith, b .pre .inside, elements-le (b .args .shape) (b .pre .admits), b .pre .admits .nx-small) }
 
 returns : tie.Need-returns
 returns c = let b = c .before .before in north-next (b .args .shape) (b .args .e) (b .pre) (c .if1 .taken)

@@ -1,16 +1,17 @@
 use native.Mathlib.Omega.{arith}
-use Rattle.step_grid.proofs.Laws.{elements-le, row-le, south-first, south-next}
+use Rattle.step_grid.proofs.Laws.{south-first, south-next}
 use Rattle.step_grid.proofs.south.Statement.{statement}
+use Rattle.rules.proofs.ShapeLaws.{elements-le, row-le}
 use Rattle.step_grid.proofs.south.Tie as tie
 
 mul-n : tie.Need-mul-n
-mul-n c = record { fits = omega (arith, elements-le (c .before .args .shape) (c .before .pre .small-grid)) }
+mul-n c = record { fits = omega (arith, elements-le (c .before .args .shape) (c .before .pre .admits)) }
 
 add-result : tie.Need-add-result
-add-result c = let b = c .before .before in record { fits = omega (arith, b .pre .inside, elements-le (b .args .shape) (b .pre .small-grid)) }
+add-result c = let b = c .before .before in record { fits = omega (arith, b .pre .inside, elements-le (b .args .shape) (b .pre .admits)) }
 
 sub-result : tie.Need-sub-result
-sub-result c = let b = c .before .before in omega (arith, b .pre .inside, c .if1 .taken, row-le (b .args .shape) (b .pre .small-grid))
+sub-result c = let b = c .before .before in omega (arith, b .pre .inside, c .if1 .taken, row-le (b .args .shape) (b .pre .admits))
 
 returns : tie.Need-returns
 returns c = let b = c .before .before in south-first (b .args .shape) (b .args .e) (b .pre) (c .if1 .taken)

@@ -1,14 +1,15 @@
 use native.Mathlib.Omega.{arith}
 use borrow.Author.Needs.{needs}
-use Rattle.step_grid.proofs.Laws.{elements-le, row-column, west-first, west-next}
+use Rattle.step_grid.proofs.Laws.{row-column, west-first, west-next}
 use Rattle.step_grid.proofs.west.Statement.{statement}
+use Rattle.rules.proofs.ShapeLaws.{elements-le}
 use Rattle.step_grid.proofs.west.Tie as tie
 
 add-result : tie.Need-add-result
-add-result c = record { fits = omega (arith, c .before .pre .inside, elements-le (c .before .args .shape) (c .before .pre .small-grid), c .before .pre .small-grid .nx-small) }
+add-result c = record { fits = omega (arith, c .before .pre .inside, elements-le (c .before .args .shape) (c .before .pre .admits), c .before .pre .admits .nx-small) }
 
 sub-result : tie.Need-sub-result
-sub-result c = omega (arith, c .before .pre .small-grid .nx-above)
+sub-result c = omega (arith, c .before .pre .admits .nx-above)
 
 sub-result-2 : tie.Need-sub-result-2
 sub-result-2 c = let a = c .before .args in omega (arith, row-column (a .shape) (a .e) (c .before .pre), c .if1 .left)

@@ -16,8 +16,8 @@ use Rattle.whole.proofs.WrittenLaws.{written-none, written-moved, written-turn,
 use Rattle.rules.specs.Field.{quadratic}
 use Rattle.rules.specs.Stages.{tendency}
 use Rattle.rules.specs.Calls.{windAt}
+use Rattle.rules.proofs.ShapeLaws.{elements-le}
 use Rattle.step_grid.specs.Place.{Placed}
-use Rattle.step_grid.proofs.Laws.{elements-le}
 use Rattle.step_upwind.specs.Upwind.{asStage}
 use Rattle.step_stages.specs.Advance.{section, newSum, newValue, gridSums, gridValues}
 use Rattle.step_stages.proofs.Laws.{flat, three-sections, factor-is, tendencies-small}
@@ -73,7 +73,7 @@ lent c =
     part-kept s l (s + l - s) (c .before .loop .inv .4) (add-sub-cancel-left s l) (omega (arith, h, b .pre .1 .1 .1 .long)) (λ i p q u v. omega arith) (λ i p q u v. omega (arith, h))
 
 placed : (c : tie.In-loop Inv-loop μ-loop) → Placed (c .before .before .before .before .args .shape) (c .before .loop .e)
-placed c = record { small-grid = c .before .before .before .before .pre .0; inside = omega arith }
+placed c = record { admits = c .before .before .before .before .pre .0; inside = omega arith }
 
 tendencies-requires : tie.Need-tendencies-requires Inv-loop μ-loop
 tendencies-requires c κs =

@@ -7,10 +7,10 @@ use lib.IntN.{pos}
 use Rattle.whole.specs.Written.{Written}
 use Rattle.whole.proofs.OverwriteLaws.{part-size}
 use Rattle.whole.proofs.WrittenLaws.{written-none, written-moved, written-turn}
-use Rattle.step_grid.proofs.Laws.{elements-le}
 use Rattle.step_stages.specs.Advance.{storedValue}
 use Rattle.step_stages.proofs.Laws.{stored-at}
 use Rattle.step_stages.proofs.start.Statement.{statement}
+use Rattle.rules.proofs.ShapeLaws.{elements-le}
 use Rattle.step_stages.proofs.start.Tie as tie
 
 abbrev Inv-loop : tie.InvT-loop

@@ -8,9 +8,9 @@ use mir.Facts.{toZ-ofZ}
 use Rattle.whole.specs.Table.{table, at}
 use Rattle.whole.proofs.TableLaws.{fill-next}
 use Rattle.step_upwind.specs.Upwind.{behinds, aheads, lasts, upwindStart}
-use Rattle.step_grid.proofs.Laws.{elements-le}
 use Rattle.step_upwind.proofs.Laws.{behind-inside, ahead-inside, last-lt}
 use Rattle.step_upwind.proofs.starts.Statement.{statement}
+use Rattle.rules.proofs.ShapeLaws.{elements-le}
 use Rattle.step_upwind.proofs.starts.Tie as tie
 
 abbrev Inv-loop : tie.InvT-loop
@@ -47,7 +47,7 @@ upwind-start-requires c κs =
     let n = c .before .before .before in
     let b = n .before .before .before .before in
     let s = c .before .before .loop .side in
-    let small = elements-le (b .args .shape) (b .pre .small-grid) in (
+    let small = elements-le (b .args .shape) (b .pre .admits) in (
       subst (λ (l : List ℕ). getD l s 0 < 4096) (sym (behind-is n)) (omega (arith, small, behind-inside (b .args .shape) (b .args .e) (b .pre) s (omega arith))),
       (
         subst (λ (l : List ℕ). getD l s 0 < 4096) (sym (ahead-is n)) (omega (arith, small, ahead-inside (b .args .shape) (b .args .e) (b .pre) s (omega arith))),

@@ -10,7 +10,8 @@ use Rattle.rules.specs.Program.{faceLine}
 use Rattle.text.specs.Added.{Added}
 use Rattle.text.proofs.AddedLaws.{added-length, same-bytes, blocks-none, block-room, block-more}
 use Rattle.rules.proofs.GridLaws.{face-lt}
-use Rattle.text_lines.proofs.RowLaws.{elements-le, face-is, lineFrom, row-is}
+use Rattle.rules.proofs.ShapeLaws.{elements-le}
+use Rattle.text_lines.proofs.RowLaws.{face-is, lineFrom, row-is}
 use Rattle.text_lines.proofs.face_row.Statement.{statement}
 use Rattle.text_lines.proofs.face_row.Tie as tie
 

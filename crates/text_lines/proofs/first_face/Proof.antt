@@ -1,7 +1,8 @@
 use native.Mathlib.Omega.{arith}
 use borrow.Author.Needs.{needs}
-use Rattle.text_lines.proofs.RowLaws.{elements-le, row-lt}
+use Rattle.text_lines.proofs.RowLaws.{row-lt}
 use Rattle.text_lines.proofs.first_face.Statement.{statement}
+use Rattle.rules.proofs.ShapeLaws.{elements-le}
 use Rattle.text_lines.proofs.first_face.Tie as tie
 
 mul-e : tie.Need-mul-e

@@ -10,9 +10,10 @@ use borrow.Author.Needs.{needs}
 use lib.ListN.{getD}
 use Rattle.whole.specs.Sum.{sum, all}
 use Rattle.rules.specs.Field.{limit}
+use Rattle.rules.proofs.ShapeLaws.{elements-le, row-room, row-more}
 use Rattle.field_elements.specs.Weighing.{tenWeights}
 use Rattle.field_elements.proofs.ElementLaws.{numbersSum, numbers-more, weight-le}
-use Rattle.field_layout.proofs.PlaceLaws.{tracer-is, elements-le, row-room, row-more}
+use Rattle.field_layout.proofs.PlaceLaws.{tracer-is}
 use Rattle.field_search.proofs.SearchLaws.{soundTo, totalTo, sound-next, total-next, searched-sound, searched-remainder, searched-excess, searched-yes, searched-no}
 use Rattle.file_sections.specs.Numbers.{numbersOf}
 use Rattle.file_sections.proofs.SectionLaws.{number-at}

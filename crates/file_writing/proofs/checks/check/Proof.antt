@@ -3,11 +3,9 @@ use mathlib.Core.Bool.{true}
 use borrow.Author.Needs.{needs}
 use borrow.Author.Tests.{not-true, not-false}
 use Rattle.rules.specs.Answers.{accepted}
-use Rattle.rules.specs.Field.{admitted}
+use Rattle.rules.specs.Field.{admitted, Admitted}
 use Rattle.rules.specs.Calls.{windSound}
-use Rattle.rules.proofs.FieldLaws.{ranges}
-use Rattle.field_layout.specs.Places.{Sized}
-use Rattle.field_layout.proofs.PlaceLaws.{sized}
+use Rattle.rules.proofs.ShapeLaws.{ranges}
 use Rattle.file_writing.proofs.WriteChecks.{enough, rooms, write-2, write-4, write-5, write-6, write-passed}
 use Rattle.file_writing.proofs.checks.check.Statement.{statement}
 use Rattle.file_writing.proofs.checks.check.Tie as tie
@@ -21,8 +19,8 @@ returns c =
 shape-is : (c : tie.Else1) → admitted (c .before .before .before .before .args .shape) ≡ true
 shape-is c = sym (c .before .admitted .ensures) ∙ not-false _ (c .if1 .left)
 
-small : (c : tie.Else1) → Sized (c .before .before .before .before .args .shape)
-small c = sized (ranges (c .before .before .before .before .args .shape) (rw (shape-is c) tt))
+small : (c : tie.Else1) → Admitted (c .before .before .before .before .args .shape)
+small c = (ranges (c .before .before .before .before .args .shape) (rw (shape-is c) tt))
 
 lent-enough-requires : tie.Need-lent-enough-requires
 lent-enough-requires c κs = small c

@@ -10,8 +10,8 @@ use Rattle.whole.proofs.OverwriteLaws.{part-size}
 use Rattle.whole.proofs.TableLaws.{fill-block, length-filled}
 use Rattle.rules.specs.Field.{quadratic, elements}
 use Rattle.rules.specs.Limiter.{closed}
+use Rattle.rules.proofs.ShapeLaws.{elements-le}
 use Rattle.step_grid.specs.Place.{Placed}
-use Rattle.step_grid.proofs.Laws.{elements-le}
 use Rattle.step.specs.Finish.{newElement}
 use Rattle.step.proofs.Laws.{new-length, lent-values}
 use Rattle.step.proofs.tracer.finish.Statement.{statement}
@@ -40,7 +40,7 @@ unfolding blocks
 loop-holds c = (omega arith, omega arith, omega arith, refl)
 
 placed : (c : tie.In-loop Inv-loop μ-loop) → Placed (c .before .before .before .before .args .shape) (c .before .loop .e)
-placed c = record { small-grid = c .before .before .before .before .pre .0; inside = omega arith }
+placed c = record { admits = c .before .before .before .before .pre .0; inside = omega arith }
 
 -- the part is as long as it was, and a turn's numbers are within part and work
 long : (c : tie.In-loop Inv-loop μ-loop) → length (c .before .loop .part) ≡ elements (c .before .before .before .before .args .shape) * 10

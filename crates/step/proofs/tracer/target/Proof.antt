@@ -11,7 +11,7 @@ use Rattle.whole.proofs.WholeLaws.{pos-positive, above-positive}
 use Rattle.rules.specs.Field.{elements, northFace}
 use Rattle.rules.specs.Correction.{target}
 use Rattle.rules.proofs.GridLaws.{west-lt, south-lt}
-use Rattle.step_grid.proofs.Laws.{elements-le}
+use Rattle.rules.proofs.ShapeLaws.{elements-le}
 use Rattle.step_correction.specs.Amounts.{massesAt}
 use Rattle.step.specs.Finish.{massOf}
 use Rattle.step.proofs.Laws.{B, C, read-sum, sum-within, positive-small}
@@ -19,7 +19,7 @@ use Rattle.step.proofs.tracer.target.Statement.{statement}
 use Rattle.step.proofs.tracer.target.Tie as tie
 
 small : (c : tie.After-struct-known) → elements (c .before .args .shape) ≤ 4096
-small c = elements-le (c .before .args .shape) (c .before .pre .1 .small-grid)
+small c = elements-le (c .before .args .shape) (c .before .pre .1 .admits)
 
 mul-n : tie.Need-mul-n
 mul-n c = record { fits = omega (arith, small c) }
@@ -47,8 +47,8 @@ inside : (c : tie.After-south) → (c .before .west .result < elements (c .befor
 inside c =
     let b = c .before .before .before in
     let p = b .pre .1 in (
-      omega (arith, c .before .west .ensures, west-lt (b .args .shape) (p .small-grid .nx-above) (p .small-grid .ny-above) (b .args .e) (p .inside)),
-      omega (arith, c .south .ensures, south-lt (b .args .shape) (p .small-grid .nx-above) (p .small-grid .ny-above) (b .args .e) (p .inside)),
+      omega (arith, c .before .west .ensures, west-lt (b .args .shape) (p .admits .nx-above) (p .admits .ny-above) (b .args .e) (p .inside)),
+      omega (arith, c .south .ensures, south-lt (b .args .shape) (p .admits .nx-above) (p .admits .ny-above) (b .args .e) (p .inside)),
       p .inside,
       small (c .before .before),
       b .pre .0 .long,
