@@ -11,12 +11,12 @@ use lib.IntN.{pos}
 use Rattle.whole.specs.Table.{overwrite}
 use Rattle.whole.proofs.OverwriteLaws.{overwrite-part}
 use Rattle.rules.specs.declared.Shape.{Shape}
-use Rattle.rules.specs.Field.{quadratic, elements, element, elementLength, tracerLength, fieldLength, part, withPart, cell, remainder, mass}
+use Rattle.rules.specs.Field.{quadratic, elements, element, elementLength, partLength, fieldLength, part, withPart, cell, remainder, mass}
 use Rattle.rules.specs.Limiter.{closed, closedUnlevelled}
 use Rattle.rules.specs.Calls.{withElement, emitted, withdrawn}
 use Rattle.rules.proofs.LimiterLaws.{weighted-cong, closed-cong, unlevelled-cong}
 use Rattle.field_layout.specs.Places.{Inside, elementStart}
-use Rattle.field_layout.proofs.PlaceLaws.{ten, tracer-is, tracer-room, start-is}
+use Rattle.field_layout.proofs.PlaceLaws.{ten, part-is, tracer-room, start-is}
 use Rattle.rules.proofs.GridLaws.{element-lt}
 use Rattle.whole.proofs.OverwriteLaws.{part-at}
 
@@ -50,11 +50,11 @@ module _ (g : Shape) (s i j : ℕ) (f : List ℕ) (h : Inside g s i j) (room : f
   lent-same : (v : ℕ) → v < 10 → cell quadratic lent 0 v ≡ cell quadratic (part quadratic g s f) e v
   unfolding cell part quadratic
   lent-same v hv =
-      let at : e * elementLength quadratic + v < tracerLength quadratic g = omega (arith, ap (λ n. e * n) ten, tracer-is g, digits-lt {q = e} {m = elements g} {r = v} {c = 10} (element-lt g i j (h .column) (h .row)) hv) in
+      let at : e * elementLength quadratic + v < partLength quadratic g = omega (arith, ap (λ n. e * n) ten, part-is g, digits-lt {q = e} {m = elements g} {r = v} {c = 10} (element-lt g i j (h .column) (h .row)) hv) in
       ap (λ n. getD lent n 0) (zero-add v) ∙ part-at 10 start k f v 0 is-ten hv ∙ ap (λ n. getD f n 0) (same-place at)
-      ∙ sym (getD-take (tracerLength quadratic g) (drop (s * tracerLength quadratic g) f) (e * elementLength quadratic + v) 0 at ∙ getD-drop (s * tracerLength quadratic g) f (e * elementLength quadratic + v) 0)
+      ∙ sym (getD-take (partLength quadratic g) (drop (s * partLength quadratic g) f) (e * elementLength quadratic + v) 0 at ∙ getD-drop (s * partLength quadratic g) f (e * elementLength quadratic + v) 0)
     where
-      same-place : e * elementLength quadratic + v < tracerLength quadratic g → start + v ≡ s * tracerLength quadratic g + (e * elementLength quadratic + v)
+      same-place : e * elementLength quadratic + v < partLength quadratic g → start + v ≡ s * partLength quadratic g + (e * elementLength quadratic + v)
       same-place _ = omega (arith, start-is g s i j, ap (λ n. e * n) ten)
 
   pub mass-lent : mass quadratic lent 0 ≡ mass quadratic (part quadratic g s f) e
@@ -69,6 +69,6 @@ module _ (g : Shape) (s i j : ℕ) (f : List ℕ) (h : Inside g s i j) (room : f
   -- written back, they replace the element in the part in the field
   pub back-in-place : (x y : List ℕ) → x ≡ y → length y ≡ elementLength quadratic → take start f ++ (x ++ drop k (drop start f)) ≡ withPart quadratic g s (withElement quadratic e y (part quadratic g s f)) f
   unfolding withPart withElement part overwrite elementStart
-  back-in-place x y q len = rw (q, is-ten, sym ten ∙ sym len) (sym (overwrite-part (s * tracerLength quadratic g) (tracerLength quadratic g) (e * elementLength quadratic) y f
+  back-in-place x y q len = rw (q, is-ten, sym ten ∙ sym len) (sym (overwrite-part (s * partLength quadratic g) (partLength quadratic g) (e * elementLength quadratic) y f
       (omega (arith, tracer-room g s (h .tracer)))
-      (omega (arith, ap (λ n. e * n) ten, ten, tracer-is g, element-lt g i j (h .column) (h .row)))))
+      (omega (arith, ap (λ n. e * n) ten, ten, part-is g, element-lt g i j (h .column) (h .row)))))

@@ -25,7 +25,7 @@ pub fn total(field: &[u32], shape: Shape, tracer: usize) -> Reading
         return Reading::Refused(Refusal::NoSuchTracer);
     }
     let start = field_layout::tracer_start(shape, tracer);
-    let end = start + field_layout::tracer_length(shape);
+    let end = start + field_layout::part_length(shape);
     field_search::tracer_total(&field[start..end], shape)
 }
 
@@ -126,7 +126,7 @@ pub fn load(field: &mut [u32], numbers: &[u32], shape: Shape, tracer: usize) -> 
         return Outcome::Refused(Refusal::TotalAboveLimit);
     }
     let start = field_layout::tracer_start(shape, tracer);
-    let end = start + field_layout::tracer_length(shape);
+    let end = start + field_layout::part_length(shape);
     field_elements::fill::lay(&mut field[start..end], numbers, n);
     Outcome::Accepted
 }

@@ -1,5 +1,5 @@
 -- Where numbers stand, with numerals: lengths, starts and rooms of an admitted shape.
-use mathlib.Core.Path.{_≡_, refl, sym, ap}
+use mathlib.Core.Path.{_≡_, refl, sym, ap, _∙_}
 use mathlib.Core.Bool.{true, false}
 use Prim.Native.Nat.{ℕ, suc, _+_, _*_, _≤_, _<_}
 use native.Mathlib.Nat.{mul-le-mul}
@@ -9,10 +9,11 @@ use lib.IntN.{ℤ, pos, negsuc}
 use lib.Signed.{ltZ, leZ}
 use Rattle.whole.proofs.OverwriteLaws.{part-room}
 use Rattle.rules.specs.declared.Shape.{Shape}
-use Rattle.rules.specs.Field.{quadratic, elements, element, elementLength, tracerLength, fieldLength, Admitted}
+use Rattle.rules.specs.Field.{quadratic, elements, element, elementLength, partLength, fieldLength, Admitted, elementsLength}
 use Rattle.rules.specs.Calls.{windInRange}
 use Rattle.rules.proofs.GridLaws.{element-lt}
 use Rattle.rules.proofs.ShapeLaws.{elements-le}
+use Rattle.rules.proofs.PartLaws.{part-is-elements}
 use Rattle.field_layout.specs.Places.{Inside, elementStart}
 
 pub ten : elementLength quadratic ≡ 10
@@ -20,38 +21,41 @@ unfolding elementLength quadratic
 ten = refl
 
 module _ (g : Shape) where
-  pub tracer-is : tracerLength quadratic g ≡ elements g * 10
-  unfolding tracerLength
-  tracer-is = ap (λ n. elements g * n) ten
+  pub elements-are : elementsLength quadratic g ≡ elements g * 10
+  unfolding elementsLength
+  elements-are = ap (λ n. elements g * n) ten
 
-  pub field-is : fieldLength quadratic g ≡ g .tracers * tracerLength quadratic g
+  pub part-is : partLength quadratic g ≡ elements g * 10
+  part-is = part-is-elements quadratic g ∙ elements-are
+
+  pub field-is : fieldLength quadratic g ≡ g .tracers * partLength quadratic g
   unfolding fieldLength
   field-is = refl
 
-  pub tracer-le : Admitted g → tracerLength quadratic g ≤ 40960
-  tracer-le h = omega (arith, tracer-is, elements-le g h)
+  pub part-le : Admitted g → partLength quadratic g ≤ 40960
+  part-le h = omega (arith, part-is, elements-le g h)
 
-  pub field-le : Admitted g → g .tracers * tracerLength quadratic g ≤ 327680
-  field-le h = mul-le-mul (h .tracers-small) (tracer-le h)
+  pub field-le : Admitted g → g .tracers * partLength quadratic g ≤ 327680
+  field-le h = mul-le-mul (h .tracers-small) (part-le h)
 
   -- a tracer's part ends within the field
-  pub tracer-room : (s : ℕ) → s < g .tracers → s * tracerLength quadratic g + tracerLength quadratic g ≤ fieldLength quadratic g
-  tracer-room s h = omega (arith, part-room (tracerLength quadratic g) h, field-is)
+  pub tracer-room : (s : ℕ) → s < g .tracers → s * partLength quadratic g + partLength quadratic g ≤ fieldLength quadratic g
+  tracer-room s h = omega (arith, part-room (partLength quadratic g) h, field-is)
 
-  pub start-le : (s : ℕ) → Admitted g → s < g .tracers → s * tracerLength quadratic g ≤ 327680
+  pub start-le : (s : ℕ) → Admitted g → s < g .tracers → s * partLength quadratic g ≤ 327680
   start-le s z h = omega (arith, tracer-room s h, field-is, field-le z)
 
   -- and an element's numbers within its tracer's part
   pub element-room : (s i j : ℕ) → Inside g s i j → elementStart g s i j + 10 ≤ fieldLength quadratic g
   unfolding elementStart
-  element-room s i j h = omega (arith, tracer-room s (h .tracer), tracer-is, ap (λ n. element g i j * n) ten, element-lt g i j (h .column) (h .row))
+  element-room s i j h = omega (arith, tracer-room s (h .tracer), part-is, ap (λ n. element g i j * n) ten, element-lt g i j (h .column) (h .row))
 
   pub element-ends : (s i j : ℕ) → Inside g s i j → (n : ℕ) → fieldLength quadratic g ≤ n → (at : ℕ) → at ≡ elementStart g s i j → (at + 10 ≤ n) × (at + 10 ≤ 327680)
   element-ends s i j h n room at e = (omega (arith, element-room s i j h, room, e), omega (arith, element-room s i j h, field-is, field-le (h .admits), e))
 
-  pub start-is : (s i j : ℕ) → elementStart g s i j ≡ s * tracerLength quadratic g + element g i j * 10
+  pub start-is : (s i j : ℕ) → elementStart g s i j ≡ s * partLength quadratic g + element g i j * 10
   unfolding elementStart
-  start-is s i j = ap (λ n. s * tracerLength quadratic g + element g i j * n) ten
+  start-is s i j = ap (λ n. s * partLength quadratic g + element g i j * n) ten
 
 -- ---- a wind number's range by two tests
 pub wind-low : (z : ℤ) → ltZ z (negsuc 1023) ≡ true → windInRange z ≡ false

@@ -1,7 +1,7 @@
 -- An element of a tracer that is there, and where its numbers stand.
 use Prim.Native.Nat.{ℕ, _+_, _*_, _<_}
 use Rattle.rules.specs.declared.Shape.{Shape}
-use Rattle.rules.specs.Field.{quadratic, element, elementLength, tracerLength, Admitted}
+use Rattle.rules.specs.Field.{quadratic, element, elementLength, partLength, Admitted}
 
 -- element (i, j) of a tracer that is there
 pub record Inside (g : Shape) (s i j : ℕ) : Type 0 where
@@ -12,4 +12,4 @@ pub record Inside (g : Shape) (s i j : ℕ) : Type 0 where
 
 -- where element (i, j) of tracer s starts in the field
 unfoldable pub elementStart : Shape → ℕ → ℕ → ℕ → ℕ
-elementStart g s i j = s * tracerLength quadratic g + element g i j * elementLength quadratic
+elementStart g s i j = s * partLength quadratic g + element g i j * elementLength quadratic

@@ -1,7 +1,7 @@
 // Shapes, and where the numbers of a shape stand in its buffers. All but the tests are leaves, for an admitted shape.
 ghost use mathlib.Core.Path.{_≡_};
 ghost use Prim.Native.Nat.{_*_, _+_, _<_};
-ghost use Rattle.rules.specs.Field.{quadratic, from1to, admitted, elements, faces, onGrid, tracerLength, fieldLength, Admitted};
+ghost use Rattle.rules.specs.Field.{quadratic, from1to, admitted, elements, faces, onGrid, elementsLength, partLength, fieldLength, Admitted};
 ghost use Rattle.rules.specs.Grid.{faceIndex};
 ghost use Rattle.rules.specs.Calls.{windInRange};
 ghost use Rattle.field_layout.specs.Places.{Inside, elementStart};
@@ -66,12 +66,20 @@ pub fn faces(shape: Shape) -> usize
     n + n
 }
 
-// The numbers of one tracer.
-pub fn tracer_length(shape: Shape) -> usize
+// The numbers of a tracer's elements.
+pub fn elements_length(shape: Shape) -> usize
     requires { ⌜ Admitted shape ⌝ }
-    ensures { λ r. ⌜ r ≡ tracerLength quadratic shape ⌝ }
+    ensures { λ r. ⌜ r ≡ elementsLength quadratic shape ⌝ }
 {
     elements(shape) * 10
+}
+
+// The numbers of a tracer's part of the field: those of its elements.
+pub fn part_length(shape: Shape) -> usize
+    requires { ⌜ Admitted shape ⌝ }
+    ensures { λ r. ⌜ r ≡ partLength quadratic shape ⌝ }
+{
+    elements_length(shape)
 }
 
 // The numbers of the field.
@@ -79,16 +87,16 @@ pub fn field_length(shape: Shape) -> usize
     requires { ⌜ Admitted shape ⌝ }
     ensures { λ r. ⌜ r ≡ fieldLength quadratic shape ⌝ }
 {
-    shape.tracers * tracer_length(shape)
+    shape.tracers * part_length(shape)
 }
 
 // Where a tracer's part starts in the field.
 pub fn tracer_start(shape: Shape, tracer: usize) -> usize
     requires { ⌜ Admitted shape ⌝ }
     requires { ⌜ tracer < shape .tracers ⌝ }
-    ensures { λ r. ⌜ r ≡ tracer * tracerLength quadratic shape ⌝ }
+    ensures { λ r. ⌜ r ≡ tracer * partLength quadratic shape ⌝ }
 {
-    tracer * tracer_length(shape)
+    tracer * part_length(shape)
 }
 
 // Where element (i, j) of a tracer starts in the field.

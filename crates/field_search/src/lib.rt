@@ -3,7 +3,7 @@ ghost use mathlib.Core.Path.{_≡_};
 ghost use Prim.Native.Nat.{_≤_};
 ghost use lib.ListN.{length};
 ghost use Rattle.rules.specs.Answers.{reading};
-ghost use Rattle.rules.specs.Field.{quadratic, faces, tracerLength, Admitted};
+ghost use Rattle.rules.specs.Field.{quadratic, faces, partLength, Admitted};
 ghost use Rattle.rules.specs.Calls.{windSound};
 ghost use Rattle.field_search.specs.Search.{searched};
 use field_elements::element::WEIGHTS;
@@ -32,7 +32,7 @@ pub const LIMIT: u64 = 100_000_000;
 // A leaf: the total of a tracer's part; refusal 6 where a remainder is above 35 or the total above the limit.
 pub fn tracer_total(part: &[u32], shape: Shape) -> Reading
     requires { ⌜ Admitted shape ⌝ }
-    requires { ⌜ length (now part) ≡ tracerLength quadratic shape ⌝ }
+    requires { ⌜ length (now part) ≡ partLength quadratic shape ⌝ }
     ensures { λ r. ⌜ reading r ≡ searched shape (now (part .entry)) ⌝ }
 {
     let nx = shape.nx;

@@ -9,7 +9,7 @@ use lib.IntN.{ℤ, natAbs}
 use lib.ListN.{length, getD, drop, length-append, drop-of-length-le}
 use Rattle.whole.specs.Table.{blocks}
 use Rattle.rules.specs.declared.Shape.{Shape}
-use Rattle.rules.specs.Field.{Kind, faces, tracerLength, fieldLength}
+use Rattle.rules.specs.Field.{Kind, faces, partLength, fieldLength}
 use Rattle.rules.specs.Calls.{windAt}
 use Rattle.rules.specs.FieldFile.{bytes32, bytes16, number16, sectionStart, tableStart, fileLength, mark, tail, fileOf}
 use Rattle.file_layout.proofs.LayoutLaws.{tracer-start, length-is}
@@ -23,18 +23,18 @@ module _ (κ : Kind) (g : Shape) where
 
   pub field-start : sectionStart κ g 1 ≡ 2 * faces g
   unfolding sectionStart
-  field-start = rw (zero-mul (4 * tracerLength κ g)) (add-zero (2 * faces g))
+  field-start = rw (zero-mul (4 * partLength κ g)) (add-zero (2 * faces g))
 
   pub table-start : tableStart κ g ≡ 2 * faces g + 4 * fieldLength κ g
   unfolding tableStart fieldLength
-  table-start = tracer-start κ g (g .tracers) ∙ ap (λ m. 2 * faces g + m) (mul-left-comm (g .tracers) 4 (tracerLength κ g))
+  table-start = tracer-start κ g (g .tracers) ∙ ap (λ m. 2 * faces g + m) (mul-left-comm (g .tracers) 4 (partLength κ g))
 
   -- every section starts before the table ends
   pub start-le : (i : ℕ) → i < g .tracers + 1 → sectionStart κ g i ≤ tableStart κ g
   unfolding tableStart sectionStart
   start-le zero h = omega arith
   start-le (suc i) h = subst (λ m. sectionStart κ g m ≤ sectionStart κ g (g .tracers + 1)) (add-one i)
-      (omega (arith, tracer-start κ g i, tracer-start κ g (g .tracers), mul-le-mul-right (4 * tracerLength κ g) (earlier i h)))
+      (omega (arith, tracer-start κ g i, tracer-start κ g (g .tracers), mul-le-mul-right (4 * partLength κ g) (earlier i h)))
     where
       earlier : (i : ℕ) → suc i < g .tracers + 1 → i ≤ g .tracers
       earlier i h = omega arith

@@ -17,7 +17,7 @@ pub fn section_start(shape: Shape, i: usize) -> usize
     if i == 0 {
         return 0;
     }
-    2 * field_layout::faces(shape) + (i - 1) * (4 * field_layout::tracer_length(shape))
+    2 * field_layout::faces(shape) + (i - 1) * (4 * field_layout::part_length(shape))
 }
 
 // Where the table of offsets starts.

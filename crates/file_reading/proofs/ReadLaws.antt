@@ -15,7 +15,7 @@ use Rattle.whole.proofs.SumLaws.{all-cong}
 use Rattle.whole.proofs.OverwriteLaws.{part-at, part-size, part-room}
 use Rattle.whole.proofs.ListParts.{table-part, fill-part, overwritten}
 use Rattle.rules.specs.declared.Shape.{Shape}
-use Rattle.rules.specs.Field.{quadratic, faces, tracerLength, fieldLength, part}
+use Rattle.rules.specs.Field.{quadratic, faces, partLength, fieldLength, part}
 use Rattle.rules.specs.Calls.{windInRange, windAt, windSound}
 use Rattle.rules.specs.FieldFile.{number32, number16, byteAt, sectionStart, tableStart, fileLength, offsetsRight, fileWind, fileField}
 use Rattle.file_sections.specs.Numbers.{numbersOf, windsOf}
@@ -64,29 +64,29 @@ module _ (g : Shape) (file : List ℕ) where
   unfolding fileField
   field-numbers = refl
 
-  pub section-numbers : (s start k : ℕ) → start ≡ sectionStart quadratic g (s + 1) → k ≡ 4 * tracerLength quadratic g
-      → numbersOf (take k (drop start file)) (tracerLength quadratic g) ≡ table (tracerLength quadratic g) (λ i. fieldNumber (s * tracerLength quadratic g + i))
+  pub section-numbers : (s start k : ℕ) → start ≡ sectionStart quadratic g (s + 1) → k ≡ 4 * partLength quadratic g
+      → numbersOf (take k (drop start file)) (partLength quadratic g) ≡ table (partLength quadratic g) (λ i. fieldNumber (s * partLength quadratic g + i))
   unfolding numbersOf
   section-numbers s start k hs hk =
-      let n = tracerLength quadratic g in
+      let n = partLength quadratic g in
       table-cong n (λ i. number32 (take k (drop start file)) (4 * i)) (λ i. fieldNumber (s * n + i))
       (λ i h. let e : start + 4 * i ≡ sectionStart quadratic g 1 + 4 * (s * n + i) = omega (arith, tracer-start quadratic g s, tracer-start quadratic g 0) in
       number32-part file start k (4 * i) (omega arith) ∙ ap (number32 file) e)
 
   -- read as its own part, it is the tracer's part of the field
-  pub section-part : (s start k : ℕ) → s < g .tracers → start ≡ sectionStart quadratic g (s + 1) → k ≡ 4 * tracerLength quadratic g
-      → numbersOf (take k (drop start file)) (tracerLength quadratic g) ≡ part quadratic g s (fileField quadratic g file)
+  pub section-part : (s start k : ℕ) → s < g .tracers → start ≡ sectionStart quadratic g (s + 1) → k ≡ 4 * partLength quadratic g
+      → numbersOf (take k (drop start file)) (partLength quadratic g) ≡ part quadratic g s (fileField quadratic g file)
   unfolding part fileField fieldLength
   section-part s start k h hs hk = section-numbers s start k hs hk
-      ∙ sym (table-part (s * tracerLength quadratic g) (tracerLength quadratic g) (g .tracers * tracerLength quadratic g) fieldNumber (part-room (tracerLength quadratic g) h))
+      ∙ sym (table-part (s * partLength quadratic g) (partLength quadratic g) (g .tracers * partLength quadratic g) fieldNumber (part-room (partLength quadratic g) h))
 
   -- a turn of the reading: the section's numbers come after those that were read before
-  pub tracer-read : (s start k to n m : ℕ) (l p ys : List ℕ) → start ≡ sectionStart quadratic g (s + 1) → k ≡ 4 * tracerLength quadratic g → n ≡ tracerLength quadratic g → to ≡ s * n → m ≡ n
+  pub tracer-read : (s start k to n m : ℕ) (l p ys : List ℕ) → start ≡ sectionStart quadratic g (s + 1) → k ≡ 4 * partLength quadratic g → n ≡ partLength quadratic g → to ≡ s * n → m ≡ n
       → to + n ≤ length p → p ≡ table to fieldNumber ++ drop to l → ys ≡ overwrite 0 (numbersOf (take k (drop start file)) n) (take m (drop to p))
       → take to p ++ (ys ++ drop m (drop to p)) ≡ table (to + n) fieldNumber ++ drop (to + n) l
   tracer-read s start k to n m l p ys hs hk hn ht hm room hp hy =
       let numbers = numbersOf (take k (drop start file)) in
-      let there : to ≡ s * tracerLength quadratic g = ht ∙ ap (λ x. s * x) hn in
+      let there : to ≡ s * partLength quadratic g = ht ∙ ap (λ x. s * x) hn in
       let read : numbers n ≡ table n (λ i. fieldNumber (to + i)) =
       ap numbers hn ∙ section-numbers s start k hs hk ∙ (λ j. table (sym hn j) (λ i. fieldNumber (sym there j + i))) in
       let size : length (take m (drop to p)) ≡ length (numbers n) = part-size n to m p hm room ∙ sym (ap length read ∙ length-table n (λ i. fieldNumber (to + i))) in

@@ -45,7 +45,7 @@ fn read_tracers(file: &[u8], field: &mut [u32], shape: Shape)
     requires { ⌜ fieldLength quadratic shape ≤ length (now field) ⌝ }
     ensures { λ _. ⌜ now (field .exit) ≡ overwrite 0 (fileField quadratic shape (now (file .entry))) (now (field .entry)) ⌝ }
 {
-    let n = field_layout::tracer_length(shape);
+    let n = field_layout::part_length(shape);
     let tracers = shape.tracers;
     let mut to = 0;
     for s in 0..tracers {

@@ -18,7 +18,7 @@ use Rattle.whole.proofs.OverwriteLaws.{part-at}
 use Rattle.whole.proofs.SumLaws.{all-at}
 use Rattle.whole.proofs.TableLaws.{length-table, getD-table}
 use Rattle.rules.specs.declared.Shape.{Shape}
-use Rattle.rules.specs.Field.{Kind, elements, faces, elementLength, tracerLength, fieldLength, part, cell, remainder, mass, total, limit, weightSum, sound}
+use Rattle.rules.specs.Field.{Kind, elements, faces, elementLength, partLength, fieldLength, part, cell, remainder, mass, total, limit, weightSum, sound}
 use Rattle.rules.specs.Calls.{windInRange, windAt, windSound}
 use Rattle.rules.specs.FieldFile.{fieldSound}
 use Rattle.rules.proofs.PartLaws.{part-length, value-le-mass, mass-le-total}
@@ -49,9 +49,9 @@ wind-fits g w t f l = omega (arith, leb→le (natAbs (windAt w f)) 1024 (all-at 
 
 module _ (κ : Kind) (g : Shape) where
   -- number j of tracer s
-  part-number : (f : List ℕ) (s j : ℕ) → j < tracerLength κ g → getD (part κ g s f) j 0 ≡ getD f (s * tracerLength κ g + j) 0
+  part-number : (f : List ℕ) (s j : ℕ) → j < partLength κ g → getD (part κ g s f) j 0 ≡ getD f (s * partLength κ g + j) 0
   unfolding part
-  part-number f s j h = part-at (tracerLength κ g) (s * tracerLength κ g) (tracerLength κ g) f j 0 refl h
+  part-number f s j h = part-at (partLength κ g) (s * partLength κ g) (partLength κ g) f j 0 refl h
 
   -- ---- fields that agree on the shape's numbers
   module _ (f f′ : List ℕ) (room : fieldLength κ g ≤ length f) (room′ : fieldLength κ g ≤ length f′) (same : (i : ℕ) → i < fieldLength κ g → getD f′ i 0 ≡ getD f i 0) where
@@ -61,8 +61,8 @@ module _ (κ : Kind) (g : Shape) where
         let size = part-length κ g s f h room in
         let size′ = part-length κ g s f′ h room′ in
         ext-getD 0 (part κ g s f′) (part κ g s f) (size′ ∙ sym size)
-        (λ j l. let m : j < tracerLength κ g = omega (arith, size′) in
-        part-number f′ s j m ∙ same (s * tracerLength κ g + j) (digits-lt h m) ∙ sym (part-number f s j m))
+        (λ j l. let m : j < partLength κ g = omega (arith, size′) in
+        part-number f′ s j m ∙ same (s * partLength κ g + j) (digits-lt h m) ∙ sym (part-number f s j m))
 
     pub fields-same : T (fieldSound κ g f) → T (fieldSound κ g f′)
     unfolding fieldSound
@@ -79,8 +79,8 @@ module _ (κ : Kind) (g : Shape) where
         go (yes y) = value-le-mass κ p e k y (weights k y)
         go (no n) = let q : k ≡ κ .nodes = omega (arith, n) in omega (arith, ap (cell κ p e) q)
 
-    part-small : (p : List ℕ) → T (sound κ g p) → (j : ℕ) → j < tracerLength κ g → getD p j 0 ≤ limit
-    unfolding sound tracerLength elementLength cell
+    part-small : (p : List ℕ) → T (sound κ g p) → (j : ℕ) → j < partLength κ g → getD p j 0 ≤ limit
+    unfolding sound partLength elementLength cell
     part-small p t j h =
         let w = elementLength κ in
         let e = j / w in
@@ -95,10 +95,10 @@ module _ (κ : Kind) (g : Shape) where
     -- so every number of a sound field fits its 32 bits
     pub number-fits : (f : List ℕ) → T (fieldSound κ g f) → (i : ℕ) → i < fieldLength κ g → getD f i 0 < 4294967296
     unfolding fieldSound fieldLength
-    number-fits f t i h = go (decLt 0 (tracerLength κ g))
+    number-fits f t i h = go (decLt 0 (partLength κ g))
       where
         w : ℕ
-        w = tracerLength κ g
+        w = partLength κ g
 
         go : Dec (0 < w) → getD f i 0 < 4294967296
         go (no n) =

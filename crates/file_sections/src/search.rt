@@ -2,7 +2,7 @@
 ghost use mathlib.Core.Path.{_≡_};
 ghost use Prim.Native.Nat.{_*_};
 ghost use lib.ListN.{length};
-ghost use Rattle.rules.specs.Field.{quadratic, tracerLength, sound, Admitted};
+ghost use Rattle.rules.specs.Field.{quadratic, partLength, sound, Admitted};
 ghost use Rattle.file_sections.specs.Numbers.{numbersOf};
 use field_elements::element::WEIGHTS;
 use field_search::LIMIT;
@@ -12,8 +12,8 @@ use rules::Shape;
 // elements and numbers ends at the first break."
 pub fn tracer_sound(section: &[u8], shape: Shape) -> bool
     requires { ⌜ Admitted shape ⌝ }
-    requires { ⌜ length (now section) ≡ 4 * tracerLength quadratic shape ⌝ }
-    ensures { λ r. ⌜ r ≡ sound quadratic shape (numbersOf (now (section .entry)) (tracerLength quadratic shape)) ⌝ }
+    requires { ⌜ length (now section) ≡ 4 * partLength quadratic shape ⌝ }
+    ensures { λ r. ⌜ r ≡ sound quadratic shape (numbersOf (now (section .entry)) (partLength quadratic shape)) ⌝ }
 {
     let nx = shape.nx;
     let ny = shape.ny;

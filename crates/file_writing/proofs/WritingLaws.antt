@@ -11,7 +11,7 @@ use Rattle.whole.specs.Table.{blocks, overwrite}
 use Rattle.whole.proofs.OverwriteLaws.{part-at, length-overwrite}
 use Rattle.whole.proofs.TableLaws.{blocks-more, blocks-cong}
 use Rattle.rules.specs.declared.Shape.{Shape}
-use Rattle.rules.specs.Field.{quadratic, tracerLength, fieldLength, part, sound, Admitted}
+use Rattle.rules.specs.Field.{quadratic, partLength, fieldLength, part, sound, Admitted}
 use Rattle.rules.specs.FieldFile.{bytes32, tableStart, mark, tail}
 use Rattle.rules.proofs.PartLaws.{part-length}
 use Rattle.field_search.specs.Search.{searched}
@@ -28,10 +28,10 @@ use Rattle.whole.proofs.ListParts.{blocks-split, overwrite-next, part-written, 
 use Rattle.file_layout.proofs.SectionLaws.{length-section32}
 
 -- tracer s, which a loop finds from `start` on, `w` numbers
-module _ (g : Shape) (field : List ℕ) (room : fieldLength quadratic g ≤ length field) (s start w : ℕ) (there : s < g .tracers) (begins : start ≡ s * w) (width : w ≡ tracerLength quadratic g) where
+module _ (g : Shape) (field : List ℕ) (room : fieldLength quadratic g ≤ length field) (s start w : ℕ) (there : s < g .tracers) (begins : start ≡ s * w) (width : w ≡ partLength quadratic g) where
   pub ends : Admitted g → (start + w ≤ fieldLength quadratic g) × (start + w ≤ 327680)
   ends h =
-      let e : s * w ≡ s * tracerLength quadratic g = ap (λ n. s * n) width in
+      let e : s * w ≡ s * partLength quadratic g = ap (λ n. s * n) width in
       let r = tracer-room g s there in
       (omega (arith, r), omega (arith, r, field-is g, field-le g h))
 
@@ -39,7 +39,7 @@ module _ (g : Shape) (field : List ℕ) (room : fieldLength quadratic g ≤ leng
   unfolding part
   lent-is = rw (add-sub-cancel-left start w, begins, width)
 
-  pub lent-length : length (take (start + w - start) (drop start field)) ≡ tracerLength quadratic g
+  pub lent-length : length (take (start + w - start) (drop start field)) ≡ partLength quadratic g
   lent-length = ap length lent-is ∙ part-length quadratic g s field there room
 
   -- what the search of its part finds

@@ -32,7 +32,7 @@ fn tracers_sound(field: &[u32], shape: Shape) -> bool
     ensures { λ r. ⌜ r ≡ fieldSound quadratic shape (now (field .entry)) ⌝ }
 {
     let tracers = shape.tracers;
-    let length = field_layout::tracer_length(shape);
+    let length = field_layout::part_length(shape);
     let mut start = 0;
     for s in 0..tracers {
         let end = start + length;

@@ -21,7 +21,7 @@ fn write_tracers(file: &mut [u8], field: &[u32], shape: Shape)
     ensures { λ _. ⌜ now (file .exit) ≡ overwrite (2 * faces shape) (blocks (fieldLength quadratic shape) (λ i. bytes32 (getD (now (field .entry)) i 0))) (now (file .entry)) ⌝ }
 {
     let tracers = shape.tracers;
-    let numbers = field_layout::tracer_length(shape);
+    let numbers = field_layout::part_length(shape);
     let mut start = 2 * field_layout::faces(shape);
     let mut from = 0;
     for k in 0..tracers {

@@ -15,7 +15,7 @@ use Rattle.whole.proofs.SumLaws.{sum-zero}
 use Rattle.whole.proofs.OverwriteLaws.{part-room, length-overwrite, overwrite-inside, length-replaced, part-same, part-other}
 use Rattle.rules.specs.declared.Shape.{Shape}
 use Rattle.rules.specs.Answers.{Answer, accepted, refused}
-use Rattle.rules.specs.Field.{Kind, elements, elementLength, tracerLength, fieldLength, part, withPart, cell, remainder, weighted, mass, total, weightSum}
+use Rattle.rules.specs.Field.{Kind, elements, elementLength, partLength, fieldLength, part, withPart, cell, remainder, weighted, mass, total, weightSum}
 use Rattle.rules.specs.Calls.{Operation, load, emission, withdrawal, step, Lent, call, done, zeroField}
 use Rattle.rules.specs.Ledger.{entry}
 use Rattle.rules.proofs.PartLaws.{node-lt, Good, part-length}
@@ -58,15 +58,15 @@ module _ (κ : Kind) (g : Shape) where
 
       there : Accepted κ g s lent field → part κ g s new ≡ done κ g lent (part κ g s field) .part
       unfolding part withPart
-      there a = part-same (tracerLength κ g) s (done κ g lent (part κ g s field) .part) field (a .size) (a .end)
+      there a = part-same (partLength κ g) s (done κ g lent (part κ g s field) .part) field (a .size) (a .end)
 
       elsewhere : Accepted κ g s lent field → (t : ℕ) → s ≢ t → part κ g t new ≡ part κ g t field
       unfolding part withPart
-      elsewhere a t ne = part-other (tracerLength κ g) s (done κ g lent (part κ g s field) .part) field (a .size) (a .end) 0 t ne
+      elsewhere a t ne = part-other (partLength κ g) s (done κ g lent (part κ g s field) .part) field (a .size) (a .end) 0 t ne
 
       long : Accepted κ g s lent field → length new ≡ length field
       unfolding withPart
-      long a = length-replaced (tracerLength κ g) s (done κ g lent (part κ g s field) .part) field (a .size) (a .end)
+      long a = length-replaced (partLength κ g) s (done κ g lent (part κ g s field) .part) field (a .size) (a .end)
 
       kept : Accepted κ g s lent field → Kept κ g lent (part κ g s field) (done κ g lent (part κ g s field))
       kept a = operation-law κ g hw (a .shape .nx-above) (a .shape .ny-above) lent _ (part κ g s field) (f .good s (a .tracer)) (a .passed)
@@ -122,11 +122,11 @@ module _ (κ : Kind) (g : Shape) (hw : 0 < weightSum κ) (field : List ℕ) (win
       ∙ getD-replicate (fieldLength κ g) i 0 0 h
 
   zero-cell : (s e k : ℕ) → s < g .tracers → e < elements g → k < elementLength κ → cell κ (part κ g s zeros) e k ≡ 0
-  unfolding cell part tracerLength fieldLength
+  unfolding cell part partLength fieldLength
   zero-cell s e k hs he hk =
-      let at : e * elementLength κ + k < tracerLength κ g = digits-lt he hk in
-      getD-take (tracerLength κ g) (drop (s * tracerLength κ g) zeros) (e * elementLength κ + k) 0 at
-      ∙ getD-drop (s * tracerLength κ g) zeros (e * elementLength κ + k) 0 ∙ zero-at (s * tracerLength κ g + (e * elementLength κ + k)) (omega (arith, part-room (tracerLength κ g) hs))
+      let at : e * elementLength κ + k < partLength κ g = digits-lt he hk in
+      getD-take (partLength κ g) (drop (s * partLength κ g) zeros) (e * elementLength κ + k) 0 at
+      ∙ getD-drop (s * partLength κ g) zeros (e * elementLength κ + k) 0 ∙ zero-at (s * partLength κ g + (e * elementLength κ + k)) (omega (arith, part-room (partLength κ g) hs))
 
   zero-mass : (s e : ℕ) → s < g .tracers → e < elements g → mass κ (part κ g s zeros) e ≡ 0
   unfolding mass weighted remainder

@@ -10,6 +10,7 @@ ghost use Rattle.whole.specs.Parts.{positive};
 ghost use Rattle.whole.specs.Sum.{sum, sumℤ};
 ghost use Rattle.rules.specs.Field.{quadratic, weighted};
 ghost use Rattle.rules.specs.Limiter.{meanShift, truncated, rescaled, closedUnlevelled, closed};
+ghost use Rattle.rules.specs.Sizes.{shiftSize, tentativeSize, levelledSize, targetSize};
 ghost use Rattle.limiter.specs.Sizes.{Tentative, Shift, shifted};
 
 // The weights of the nine nodes, for values and for signed values.
@@ -20,7 +21,7 @@ const SIGNED_WEIGHTS: [i64; 9] = [1, 4, 1, 4, 16, 4, 1, 4, 1];
 // The weighted sum of nine signed values.
 fn weighted_sum(psi: &[i64]) -> i64
     requires { ⌜ Tentative (now psi) ⌝ }
-    ensures { λ r. ⌜ Are 331200000000 r (sumℤ 9 (λ k. pos (quadratic .weight k) *ℤ at (now (psi .entry)) k)) ⌝ }
+    ensures { λ r. ⌜ Are (36 * tentativeSize) r (sumℤ 9 (λ k. pos (quadratic .weight k) *ℤ at (now (psi .entry)) k)) ⌝ }
 {
     let mut sum: i64 = 0;
     for k in 0..9 {
@@ -32,8 +33,8 @@ fn weighted_sum(psi: &[i64]) -> i64
 // What levelling adds to every value.
 fn mean_shift(psi: &[i64], target: u64) -> i64
     requires { ⌜ Tentative (now psi) ⌝ }
-    requires { ⌜ target ≤ 500000000 ⌝ }
-    ensures { λ r. ⌜ Are 9213888890 r (meanShift quadratic (at (now (psi .entry))) target) ⌝ }
+    requires { ⌜ target ≤ targetSize ⌝ }
+    ensures { λ r. ⌜ Are shiftSize r (meanShift quadratic (at (now (psi .entry))) target) ⌝ }
 {
     let sum = weighted_sum(psi);
     whole::floor_div((target as i64) - sum, 36)
@@ -41,9 +42,9 @@ fn mean_shift(psi: &[i64], target: u64) -> i64
 
 // A value after levelling and truncation.
 fn truncate(x: i64, shift: i64) -> u64
-    requires { ⌜ Within 9200000000 x ⌝ }
+    requires { ⌜ Within tentativeSize x ⌝ }
     requires { ⌜ Shift shift ⌝ }
-    ensures { λ r. ⌜ (r ≡ positive (x +ℤ shift)) × (r ≤ 18413888890) ⌝ }
+    ensures { λ r. ⌜ (r ≡ positive (x +ℤ shift)) × (r ≤ levelledSize) ⌝ }
 {
     let y = x + shift;
     if y < 0 {
@@ -79,7 +80,7 @@ fn close_shifted(part: &mut [u32], psi: &[i64], shift: i64, target: u64)
     requires { ⌜ length (now part) ≡ 10 ⌝ }
     requires { ⌜ Tentative (now psi) ⌝ }
     requires { ⌜ Shift shift ⌝ }
-    requires { ⌜ target ≤ 500000000 ⌝ }
+    requires { ⌜ target ≤ targetSize ⌝ }
     ensures { λ _. ⌜ now (part .exit) ≡ closedUnlevelled quadratic (shifted (now (psi .entry)) shift) target ⌝ }
 {
     let p = truncated_sum(psi, shift);
@@ -97,7 +98,7 @@ fn close_shifted(part: &mut [u32], psi: &[i64], shift: i64, target: u64)
 pub fn close(part: &mut [u32], psi: &[i64], target: u64)
     requires { ⌜ length (now part) ≡ 10 ⌝ }
     requires { ⌜ Tentative (now psi) ⌝ }
-    requires { ⌜ target ≤ 500000000 ⌝ }
+    requires { ⌜ target ≤ targetSize ⌝ }
     ensures { λ _. ⌜ now (part .exit) ≡ closed quadratic (at (now (psi .entry))) target ⌝ }
 {
     let shift = mean_shift(psi, target);
@@ -108,7 +109,7 @@ pub fn close(part: &mut [u32], psi: &[i64], target: u64)
 pub fn close_unlevelled(part: &mut [u32], psi: &[i64], target: u64)
     requires { ⌜ length (now part) ≡ 10 ⌝ }
     requires { ⌜ Tentative (now psi) ⌝ }
-    requires { ⌜ target ≤ 500000000 ⌝ }
+    requires { ⌜ target ≤ targetSize ⌝ }
     ensures { λ _. ⌜ now (part .exit) ≡ closedUnlevelled quadratic (at (now (psi .entry))) target ⌝ }
 {
     close_shifted(part, psi, 0, target);

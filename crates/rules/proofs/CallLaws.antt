@@ -13,7 +13,7 @@ use Rattle.whole.proofs.Cases.{both-yes, either, neqb→ne}
 use Rattle.whole.proofs.WholeLaws.{positive-pos, negative-pos, sub-parts-of, eq-parts, pos-injective}
 use Rattle.rules.specs.declared.Shape.{Shape}
 use Rattle.rules.specs.Answers.{accepted}
-use Rattle.rules.specs.Field.{Kind, elements, element, onGrid, elementLength, tracerLength, cell, remainder, mass, total, limit, weightSum}
+use Rattle.rules.specs.Field.{Kind, elements, element, onGrid, elementLength, partLength, cell, remainder, mass, total, limit, weightSum}
 use Rattle.rules.specs.Limiter.{closingRemainder}
 use Rattle.rules.specs.Stages.{stages}
 use Rattle.rules.specs.Step.{Stepped, tracerStep, report}
@@ -61,8 +61,8 @@ module _ (κ : Kind) (e q : ℕ) (p : List ℕ) where
       (withdrawal-remainder κ (cell κ p e) (remainder κ p e) q l b)
 
 -- an accepted operation keeps the length of a part, whatever its numbers are
-pub done-length : (κ : Kind) (g : Shape) (hx : 0 < g .nx) (hy : 0 < g .ny) (op : Operation Lent) (there : Bool) (p : List ℕ) → length p ≡ tracerLength κ g → Passed (checks κ g op there p)
-    → length (done κ g op p .part) ≡ tracerLength κ g
+pub done-length : (κ : Kind) (g : Shape) (hx : 0 < g .nx) (hy : 0 < g .ny) (op : Operation Lent) (there : Bool) (p : List ℕ) → length p ≡ partLength κ g → Passed (checks κ g op there p)
+    → length (done κ g op p .part) ≡ partLength κ g
 unfolding done checks tracerStep
 done-length κ g hx hy (load l) there p h c = length-loaded κ g l
 done-length κ g hx hy (emission i j q) there p h c = length-withElement κ g (element g i j) (emitted κ (element g i j) q p) p (on-grid-lt g i j (c .1 .1 .0)) (length-emitted κ (element g i j) q p) h

@@ -13,7 +13,7 @@ use Rattle.whole.proofs.Cases.{true-of, both-yes}
 use Rattle.whole.proofs.OverwriteLaws.{part-room, length-replaced, part-same, part-other}
 use Rattle.rules.specs.declared.Shape.{Shape}
 use Rattle.rules.specs.Answers.{Answer, accepted, refused, Check, check, answer, after}
-use Rattle.rules.specs.Field.{Kind, admitted, elements, tracerLength, fieldLength, part, withPart, remainder, weightSum, total, limit, sound, Admitted}
+use Rattle.rules.specs.Field.{Kind, admitted, elements, partLength, fieldLength, part, withPart, remainder, weightSum, total, limit, sound, Admitted}
 use Rattle.rules.specs.Step.{Stepped}
 use Rattle.rules.specs.Calls.{Operation, load, emission, withdrawal, step, Lent, lentEnough, soundIfThere, done, checks, call}
 use Rattle.rules.proofs.AnswerLaws.{Passed, answer-ind}
@@ -58,8 +58,8 @@ module _ (κ : Kind) (g : Shape) (s : ℕ) (op : Operation Lent) (field : List �
     pub room : fieldLength κ g ≤ length field
     pub tracer : s < g .tracers
     pub passed : Passed (checks κ g op (ltb s (g .tracers)) p)
-    pub end : s * tracerLength κ g + tracerLength κ g ≤ length field
-    pub size : length (d .part) ≡ tracerLength κ g
+    pub end : s * partLength κ g + partLength κ g ≤ length field
+    pub size : length (d .part) ≡ partLength κ g
 
   accepted-of : Passed all-checks → Accepted
   unfolding fieldLength
@@ -68,7 +68,7 @@ module _ (κ : Kind) (g : Shape) (s : ℕ) (op : Operation Lent) (field : List �
     room = room;
     tracer = tracer;
     passed = c .1 .1;
-    end = omega (arith, room, part-room (tracerLength κ g) tracer);
+    end = omega (arith, room, part-room (partLength κ g) tracer);
     size = done-length κ g (shape .nx-above) (shape .ny-above) op (ltb s (g .tracers)) p (part-length κ g s field tracer room) (c .1 .1);
   }
     where
@@ -89,17 +89,17 @@ module _ (κ : Kind) (g : Shape) (s : ℕ) (op : Operation Lent) (field : List �
 
   pub call-length : length (call κ g s op field .field) ≡ length field
   unfolding withPart
-  call-length = call-ind (λ a f. length f ≡ length field) (λ n. refl) (λ h. length-replaced (tracerLength κ g) s (d .part) field (h .size) (h .end))
+  call-length = call-ind (λ a f. length f ≡ length field) (λ n. refl) (λ h. length-replaced (partLength κ g) s (d .part) field (h .size) (h .end))
 
   -- the part of the tracer that the call names
   pub call-part : part κ g s (call κ g s op field .field) ≡ after (call κ g s op field .reply) (d .part) p
   unfolding after part withPart
-  call-part = call-ind (λ a f. part κ g s f ≡ after a (d .part) p) (λ n. refl) (λ h. part-same (tracerLength κ g) s (d .part) field (h .size) (h .end))
+  call-part = call-ind (λ a f. part κ g s f ≡ after a (d .part) p) (λ n. refl) (λ h. part-same (partLength κ g) s (d .part) field (h .size) (h .end))
 
   -- and of any other
   pub call-other : (t : ℕ) → s ≢ t → part κ g t (call κ g s op field .field) ≡ part κ g t field
   unfolding part withPart
-  call-other t ne = call-ind (λ a f. part κ g t f ≡ part κ g t field) (λ n. refl) (λ h. part-other (tracerLength κ g) s (d .part) field (h .size) (h .end) 0 t ne)
+  call-other t ne = call-ind (λ a f. part κ g t f ≡ part κ g t field) (λ n. refl) (λ h. part-other (partLength κ g) s (d .part) field (h .size) (h .end) 0 t ne)
 
 -- two fields that are long enough and have the same part of the tracer give the same answer, and the same part after it
 module _ (κ : Kind) (g : Shape) (s : ℕ) (op : Operation Lent) (f f′ : List ℕ) (room : fieldLength κ g ≤ length f) (room′ : fieldLength κ g ≤ length f′) (same : part κ g s f ≡ part κ g s f′) where

@@ -1,5 +1,5 @@
 -- A tracer's part: its numbers, masses and total, after its elements are made anew or one of them is replaced.
-use mathlib.Core.Path.{_≡_, sym, ap, ap₂, _∙_}
+use mathlib.Core.Path.{_≡_, refl, sym, ap, ap₂, _∙_}
 use mathlib.Core.List.{List, [], _∷_}
 use mathlib.Core.Logic.{_≢_}
 use Prim.Native.Nat.{ℕ, _+_, _*_, _≤_, _<_}
@@ -14,12 +14,12 @@ use Rattle.whole.proofs.SumLaws.{sum-cong, sum-pos, sumℤ-cong, term-le}
 use Rattle.whole.proofs.TableLaws.{length-table, getD-table, length-blocks, getD-blocks}
 use Rattle.whole.proofs.OverwriteLaws.{part-room, number-same, number-other, length-replaced}
 use Rattle.rules.specs.declared.Shape.{Shape}
-use Rattle.rules.specs.Field.{Kind, elements, elementLength, tracerLength, fieldLength, part, cell, remainder, weighted, mass, total, limit, weightSum}
+use Rattle.rules.specs.Field.{Kind, elements, elementLength, partLength, fieldLength, part, cell, remainder, weighted, mass, total, limit, weightSum, elementsLength}
 use Rattle.rules.specs.Calls.{loaded, loadedElement, loadedValue, withElement}
 
 -- what demand 3 says of a tracer's part: its length, its remainders, its total
 pub record Good (κ : Kind) (g : Shape) (p : List ℕ) : Type 0 where
-  pub size : length p ≡ tracerLength κ g
+  pub size : length p ≡ partLength κ g
   pub small : (e : ℕ) → e < elements g → remainder κ p e < weightSum κ
   pub bounded : total κ g p ≤ limit
 
@@ -67,12 +67,12 @@ module _ (κ : Kind) (n : ℕ) (f : ℕ → List ℕ) (each : (e : ℕ) → leng
   remainder-blocks e he = remainder-of κ (blocks n f) (f e) e (cell-blocks e he)
 
 -- ---- a part in which element e was replaced
-module _ (κ : Kind) (g : Shape) (e : ℕ) (x p : List ℕ) (he : e < elements g) (width : length x ≡ elementLength κ) (size : length p ≡ tracerLength κ g) where
+module _ (κ : Kind) (g : Shape) (e : ℕ) (x p : List ℕ) (he : e < elements g) (width : length x ≡ elementLength κ) (size : length p ≡ partLength κ g) where
   room : e * elementLength κ + elementLength κ ≤ length p
-  unfolding tracerLength
+  unfolding partLength
   room = omega (arith, part-room (elementLength κ) he)
 
-  pub length-withElement : length (withElement κ e x p) ≡ tracerLength κ g
+  pub length-withElement : length (withElement κ e x p) ≡ partLength κ g
   unfolding withElement
   length-withElement = length-replaced (elementLength κ) e x p width room ∙ size
 
@@ -113,8 +113,8 @@ module _ (κ : Kind) (numbers : List ℕ) where
       ∙ getD-table (κ .nodes) (loadedValue κ numbers e) k 0 h))) (loaded-element-remainder e) ∙ add-zero (sum (κ .nodes) (λ k. κ .weight k * loadedValue κ numbers e k))
 
 module _ (κ : Kind) (g : Shape) (numbers : List ℕ) where
-  pub length-loaded : length (loaded κ g numbers) ≡ tracerLength κ g
-  unfolding loaded tracerLength
+  pub length-loaded : length (loaded κ g numbers) ≡ partLength κ g
+  unfolding loaded partLength
   length-loaded = length-blocks (elementLength κ) (loadedElement κ numbers) (length-loaded-element κ numbers) (elements g)
 
   pub mass-loaded : (e : ℕ) → e < elements g → mass κ (loaded κ g numbers) e ≡ weighted κ (loadedValue κ numbers e)
@@ -150,7 +150,11 @@ module _ (κ : Kind) (g : Shape) (p : List ℕ) where
   value-le-limit h e k he hk w = omega (arith, value-le-mass κ p e k hk w, mass-le-total e he, h .bounded)
 
 -- ---- the parts of a field that is long enough
-pub part-length : (κ : Kind) (g : Shape) (s : ℕ) (field : List ℕ) → s < g .tracers → fieldLength κ g ≤ length field → length (part κ g s field) ≡ tracerLength κ g
+pub part-is-elements : (κ : Kind) (g : Shape) → partLength κ g ≡ elementsLength κ g
+unfolding partLength
+part-is-elements κ g = refl
+
+pub part-length : (κ : Kind) (g : Shape) (s : ℕ) (field : List ℕ) → s < g .tracers → fieldLength κ g ≤ length field → length (part κ g s field) ≡ partLength κ g
 unfolding part fieldLength
-part-length κ g s field h r = length-take-le (tracerLength κ g) (drop (s * tracerLength κ g) field)
-    (omega (arith, length-drop (s * tracerLength κ g) field, part-room (tracerLength κ g) h))
+part-length κ g s field h r = length-take-le (partLength κ g) (drop (s * partLength κ g) field)
+    (omega (arith, length-drop (s * partLength κ g) field, part-room (partLength κ g) h))

@@ -2,13 +2,13 @@
 -- the largest value that it is made of. The step's code needs these sizes.
 use mathlib.Core.Path.{_≡_, refl, ap, _∙_}
 use mathlib.Core.Bool.{Bool, true, false, cond}
-use mathlib.Core.List.{List, [], _∷_}
+use mathlib.Core.List.{List}
 use Prim.Native.Nat.{ℕ, _+_, _*_, _-_, _/_, _%_, _≤_, _<_}
 use native.Mathlib.Nat.{mul-comm, mul-assoc, mul-left-comm, mul-right-comm, mul-le-mul, mul-le-mul-left, mul-le-mul-right, div-lt-iff-lt-mul, mod-lt, add-mul}
 use native.Mathlib.Omega.{arith}
 use lib.Dec.{eqb, leb, leb→le}
 use lib.IntN.{ℤ, pos, natAbs, _+ℤ_, _*ℤ_}
-use lib.ListN.{getD, List·getD-map}
+use lib.ListN.{getD}
 use lib.Signed.{nonNeg}
 use Rattle.whole.specs.Bound.{Within}
 use Rattle.whole.specs.Sum.{sum, all}
@@ -21,14 +21,6 @@ use Rattle.rules.specs.Field.{Kind, quadratic, elements, faces, northFac
 use Rattle.rules.specs.Grid.{west, south}
 use Rattle.rules.specs.Stages.{node, lastPlace, upwind, placeWind, advection, alongX, alongY, tendency, tabulated, stage0, stage1, stage2, tentative, faceSum, fluxOf, Stages, stages, flux}
 use Rattle.rules.proofs.GridLaws.{west-lt, south-lt}
-
--- the weights along a line as whole numbers, and that they are the kind's
-abbrev pub weights : List ℤ
-weights = pos 1 ∷ pos 4 ∷ pos 1 ∷ []
-
-pub weight-is : (q : ℕ) → getD weights q (pos 0) ≡ pos (quadratic .lineWeight q)
-unfolding quadratic
-weight-is q = List·getD-map pos (1 ∷ 4 ∷ 1 ∷ []) q 0
 
 -- a bound on the factors by which one line of nodes enters X or Y at place a
 unfoldable pub lineBound : Kind → ℕ → ℕ

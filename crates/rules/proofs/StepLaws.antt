@@ -16,7 +16,7 @@ use Rattle.whole.proofs.SumLaws.{sumℤ-cong}
 use Rattle.whole.proofs.TableLaws.{length-table, getD-table, length-blocks}
 use Rattle.whole.proofs.Cases.{cond-ind}
 use Rattle.rules.specs.declared.Shape.{Shape}
-use Rattle.rules.specs.Field.{Kind, elements, faces, elementLength, tracerLength, remainder, mass, total, limit, weightSum}
+use Rattle.rules.specs.Field.{Kind, elements, faces, elementLength, partLength, remainder, mass, total, limit, weightSum}
 use Rattle.rules.specs.Limiter.{closed, closedUnlevelled, adjusted}
 use Rattle.rules.specs.Grid.{behind, ahead}
 use Rattle.rules.specs.Stages.{Stages, flux}
@@ -95,8 +95,8 @@ module _ (κ : Kind) (g : Shape) (hx : 0 < g .nx) (hy : 0 < g .ny) (c : ℕ → 
   unfolding finish
   mass-after e h = mass-blocks κ (elements g) (λ e. closed κ (s .ψ e) (goal e)) (λ e. length-closed κ (s .ψ e) (goal e)) e h ∙ held-closed κ (s .ψ e) (goal e)
 
-  pub length-after : length after ≡ tracerLength κ g
-  unfolding finish tracerLength
+  pub length-after : length after ≡ partLength κ g
+  unfolding finish partLength
   length-after = length-blocks (elementLength κ) (λ e. closed κ (s .ψ e) (goal e)) (λ e. length-closed κ (s .ψ e) (goal e)) (elements g)
 
   remainder-after : 0 < weightSum κ → (e : ℕ) → e < elements g → remainder κ after e < weightSum κ

@@ -96,22 +96,27 @@ weightSum κ = sum (κ .nodes) (κ .weight)
 unfoldable pub elementLength : Kind → ℕ
 elementLength κ = κ .nodes + 1
 
-unfoldable pub tracerLength : Kind → Shape → ℕ
+-- the numbers of a tracer's elements, and those of its part of the field, which holds nothing else
+unfoldable pub elementsLength : Kind → Shape → ℕ
 unfolding elementLength
-tracerLength κ g = elements g * elementLength κ
+elementsLength κ g = elements g * elementLength κ
+
+unfoldable pub partLength : Kind → Shape → ℕ
+unfolding elementsLength
+partLength κ g = elementsLength κ g
 
 unfoldable pub fieldLength : Kind → Shape → ℕ
-unfolding tracerLength
-fieldLength κ g = g .tracers * tracerLength κ g
+unfolding partLength
+fieldLength κ g = g .tracers * partLength κ g
 
 -- a tracer's part of the field, and the field with that part replaced
 unfoldable pub part : Kind → Shape → ℕ → List ℕ → List ℕ
-unfolding tracerLength
-part κ g s field = take (tracerLength κ g) (drop (s * tracerLength κ g) field)
+unfolding partLength
+part κ g s field = take (partLength κ g) (drop (s * partLength κ g) field)
 
 unfoldable pub withPart : Kind → Shape → ℕ → List ℕ → List ℕ → List ℕ
-unfolding tracerLength overwrite
-withPart κ g s p field = overwrite (s * tracerLength κ g) p field
+unfolding partLength overwrite
+withPart κ g s p field = overwrite (s * partLength κ g) p field
 
 -- number k of element e of a part: value k, and the remainder (document 01's ρ) after the last node
 unfoldable pub cell : Kind → List ℕ → ℕ → ℕ → ℕ

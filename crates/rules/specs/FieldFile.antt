@@ -9,7 +9,7 @@ use Rattle.whole.specs.Sum.{all}
 use Rattle.whole.specs.Table.{table, blocks, overwrite}
 use Rattle.rules.specs.declared.Shape.{Shape}
 use Rattle.rules.specs.Answers.{Answer, check, answer, after}
-use Rattle.rules.specs.Field.{Kind, admitted, faces, tracerLength, fieldLength, part, sound}
+use Rattle.rules.specs.Field.{Kind, admitted, faces, partLength, fieldLength, part, sound}
 use Rattle.rules.specs.Calls.{windAt, windSound}
 
 -- ---- numbers as bytes, "Little-endian"
@@ -41,8 +41,8 @@ number16 file i =
 module _ (κ : Kind) (g : Shape) where
   -- where section i starts: the wind's is section 0, tracer s's is section s + 1, and the table comes after the last
   unfoldable pub sectionStart : ℕ → ℕ
-  unfolding tracerLength
-  sectionStart i = cond (eqb i 0) 0 (2 * faces g + (i - 1) * (4 * tracerLength κ g))
+  unfolding partLength
+  sectionStart i = cond (eqb i 0) 0 (2 * faces g + (i - 1) * (4 * partLength κ g))
 
   unfoldable pub tableStart : ℕ
   unfolding sectionStart

@@ -2,6 +2,8 @@
 ghost use mathlib.Core.Path.{_≡_};
 ghost use Rattle.rules.specs.Answers.{number};
 
+pub mod element; // element.rt: the nodes of an element and their weights
+
 // The shape of a field: nx by ny elements, and how many tracers (document 01: smokes, K).
 pub struct Shape {
     pub nx: usize,

@@ -13,7 +13,7 @@ use Rattle.whole.proofs.Cases.{both-yes}
 use Rattle.whole.proofs.SumLaws.{all-at}
 use Rattle.rules.specs.declared.Shape.{Shape}
 use Rattle.rules.specs.Answers.{Answer, accepted, refused, Check, check, answer, plain}
-use Rattle.rules.specs.Field.{quadratic, admitted, faces, workNeeded, fieldLength, tracerLength, part, withPart, total, Admitted}
+use Rattle.rules.specs.Field.{quadratic, admitted, faces, workNeeded, fieldLength, partLength, part, withPart, total, Admitted}
 use Rattle.rules.specs.Step.{tracerStep}
 use Rattle.rules.specs.Calls.{Operation, step, Lent, lengthsLent, windInRange, windAt, windSound, lentEnough, soundIfThere, checks, done, call, totalReading, reportAfter, WorkAfter}
 use Rattle.rules.proofs.AnswerLaws.{Passed, answer-ind, prefix-refused, prefix-accepted}
@@ -138,7 +138,7 @@ pub work-accepted : (g : Shape) (a : Answer (List ℤ)) (r old x new : List ℤ)
 work-accepted g a r old x new e q l h = subst (λ y. WorkAfter g y old new) (sym e) (h, ap (drop (workNeeded g)) q ∙ drop-at x (drop (workNeeded g) old) (workNeeded g) l)
 
 -- the part that was lent and written, back in its place
-pub part-back : (g : Shape) (s at k : ℕ) (x new f : List ℕ) → at ≡ s * tracerLength quadratic g → k ≡ tracerLength quadratic g → x ≡ new → length new ≡ tracerLength quadratic g
+pub part-back : (g : Shape) (s at k : ℕ) (x new f : List ℕ) → at ≡ s * partLength quadratic g → k ≡ partLength quadratic g → x ≡ new → length new ≡ partLength quadratic g
     → take at f ++ (x ++ drop k (drop at f)) ≡ withPart quadratic g s new f
 unfolding withPart overwrite
 part-back g s at k x new f ea ek ex size = rw (ea, ek ∙ sym size, ex)

@@ -77,7 +77,7 @@ pub fn step(
         Outcome::Refused(r) => Outcome::Refused(r),
         Outcome::Accepted => {
             let start = field_layout::tracer_start(shape, tracer);
-            let end = start + field_layout::tracer_length(shape);
+            let end = start + field_layout::part_length(shape);
             let needed = 64 * field_layout::elements(shape);
             tracer::step(
                 &mut field[start..end],

@@ -17,7 +17,7 @@ use Rattle.whole.proofs.Sizes.{peak-at}
 use Rattle.rules.specs.Field.{quadratic}
 use Rattle.rules.specs.Stages.{faceSum, fluxOf}
 use Rattle.step_upwind.specs.Upwind.{upwindStart}
-use Rattle.rules.proofs.StageBounds.{weights, weight-is}
+use Rattle.rules.proofs.QuadraticLaws.{lineWeights, line-weight-is}
 use Rattle.step_fluxes.specs.Face.{Staged, stagesSum, faceFlux}
 
 module _ (w : List ℤ) (n start stride : ℕ) where
@@ -26,11 +26,11 @@ module _ (w : List ℤ) (n start stride : ℕ) where
   values r = at w (start + stride * r) +ℤ pos 4 *ℤ at w (2 * n + (start + stride * r)) +ℤ at w (n + (start + stride * r))
 
   abbrev pub term : ℕ → ℤ
-  term r = getD weights r (pos 0) *ℤ values r
+  term r = getD lineWeights r (pos 0) *ℤ values r
 
   pub terms-are : sumℤ 3 term ≡ stagesSum w n start stride
   unfolding stagesSum faceSum quadratic
-  terms-are = sumℤ-cong 3 term (λ r. pos (quadratic .lineWeight r) *ℤ values r) (λ r _. ap (λ x. x *ℤ values r) (weight-is r))
+  terms-are = sumℤ-cong 3 term (λ r. pos (quadratic .lineWeight r) *ℤ values r) (λ r _. ap (λ x. x *ℤ values r) (line-weight-is r))
 
   module _ (h : Staged w n) (room : start + 2 * stride < n) where
     pub reach : (r : ℕ) → r < 3 → start + stride * r < n
@@ -49,7 +49,7 @@ module _ (w : List ℤ) (n start stride : ℕ) where
         each : (r : ℕ) → r < m → Within (bound r) (term r)
         each r q =
             let v = values-small r (omega arith) in
-            let x : Within 6 (getD weights r (pos 0)) = record { within = peak-at weights r } in
+            let x : Within 6 (getD lineWeights r (pos 0)) = record { within = peak-at lineWeights r } in
             let y : Within 10200000000 (values r) = within-le (within-add (within-add (v .0) (within-mul (within-pos 4) (v .2))) (v .1)) (omega arith) in
             within-mul x y
 
@@ -66,7 +66,7 @@ flux-is w n c behind ahead last stride = refl
 pub flux-kept : (w w′ : List ℤ) (n : ℕ) (c : ℤ) (behind ahead last stride : ℕ) → last + 2 * stride < 9 → behind * 9 + 9 ≤ n → ahead * 9 + 9 ≤ n → ((i : ℕ) → i < 3 * n → at w i ≡ at w′ i) → faceFlux w n c behind ahead last stride ≡ faceFlux w′ n c behind ahead last stride
 unfolding faceFlux
 flux-kept w w′ n c behind ahead last stride h b a same = ap (fluxOf quadratic c) (sym (terms-are w n start stride)
-    ∙ sumℤ-cong 3 (term w n start stride) (term w′ n start stride) (λ r l. ap (λ x. getD weights r (pos 0) *ℤ x) (each r l)) ∙ terms-are w′ n start stride)
+    ∙ sumℤ-cong 3 (term w n start stride) (term w′ n start stride) (λ r l. ap (λ x. getD lineWeights r (pos 0) *ℤ x) (each r l)) ∙ terms-are w′ n start stride)
   where
     start : ℕ
     start = upwindStart c behind ahead last

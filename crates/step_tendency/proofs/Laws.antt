@@ -18,7 +18,8 @@ use Rattle.whole.proofs.TableLaws.{length-table, getD-table, table-all, table-c
 use Rattle.whole.proofs.Sizes.{peak-at}
 use Rattle.rules.specs.Field.{quadratic}
 use Rattle.rules.specs.Stages.{placeWind, advection}
-use Rattle.rules.proofs.StageBounds.{weights, weight-is, quadratic-bounded, placeWind-within, lineBound, advection-within}
+use Rattle.rules.proofs.StageBounds.{quadratic-bounded, placeWind-within, lineBound, advection-within}
+use Rattle.rules.proofs.QuadraticLaws.{lineWeights, line-weight-is}
 use Rattle.step_tendency.specs.Line.{weighedWind, alongLine, withEnds, lineAt, lineNodes, localTendency}
 
 -- ---- the code's tables
@@ -43,9 +44,9 @@ unfolding quadratic all
 east-is q h = List·getD-map pos (0 ∷ 1 ∷ 2 ∷ []) q 0
     ∙ ap pos (eqb→eq (getD (0 ∷ 1 ∷ 2 ∷ []) q 0) (2 - quadratic .westShare q) (all-at 3 (λ q. eqb (getD (0 ∷ 1 ∷ 2 ∷ []) q 0) (2 - quadratic .westShare q)) tt q h))
 
-pub wind-is : (cw ce : ℤ) (q : ℕ) → q < 3 → getD weights q (pos 0) *ℤ (getD westShares q (pos 0) *ℤ cw +ℤ getD eastShares q (pos 0) *ℤ ce) ≡ weighedWind cw ce q
+pub wind-is : (cw ce : ℤ) (q : ℕ) → q < 3 → getD lineWeights q (pos 0) *ℤ (getD westShares q (pos 0) *ℤ cw +ℤ getD eastShares q (pos 0) *ℤ ce) ≡ weighedWind cw ce q
 unfolding placeWind
-wind-is cw ce q h = λ i. weight-is q i *ℤ (west-is q i *ℤ cw +ℤ east-is q h i *ℤ ce)
+wind-is cw ce q h = λ i. line-weight-is q i *ℤ (west-is q i *ℤ cw +ℤ east-is q h i *ℤ ce)
 
 -- ---- sizes
 pub weighedWind-within : (cw ce : ℤ) → Within 1024 cw → Within 1024 ce → AllWithin 8192 (table 3 (weighedWind cw ce))
@@ -120,7 +121,7 @@ nodes-within v cw ce u side step stride hv hw he hu = record { all = table-all (
 -- ---- the tendency at a node, from X and Y at every node
 module _ (x y : List ℤ) where
   abbrev pub combined : ℕ → ℤ
-  combined k = floorDiv (getD weights (k / 3) (pos 0) *ℤ at x k +ℤ getD weights (k % 3) (pos 0) *ℤ at y (3 * (k % 3) + k / 3)) (2 ^ getD shifts k 0)
+  combined k = floorDiv (getD lineWeights (k / 3) (pos 0) *ℤ at x k +ℤ getD lineWeights (k % 3) (pos 0) *ℤ at y (3 * (k % 3) + k / 3)) (2 ^ getD shifts k 0)
 
 -- 8192 times a node's weight is a power of 2
 pub shift-is : (k : ℕ) → k < 9 → 2 ^ getD shifts k 0 ≡ 8192 * (quadratic .lineWeight (k % 3) * quadratic .lineWeight (k / 3))
@@ -147,7 +148,7 @@ combined-is v c u k h =
     ∙ (λ i. advection quadratic (λ q. at v (ex q i)) (at c 0) (at c 1) (at u (zero-add (k / 3) i)) (at u (3 + k / 3)) (k % 3)) in
     let y = getD-table 9 (lineNodes v (at c 2) (at c 3) u 6 1 3) m (pos 0) (t .0)
     ∙ (λ i. advection quadratic (λ q. at v (ey q i)) (at c 2) (at c 3) (at u (6 + t .1 i)) (at u (9 + t .1 i)) (t .2 i)) in
-    λ i. floorDiv (weight-is (k / 3) i *ℤ x i +ℤ weight-is (k % 3) i *ℤ y i) (shift-is k h i)
+    λ i. floorDiv (line-weight-is (k / 3) i *ℤ x i +ℤ line-weight-is (k % 3) i *ℤ y i) (shift-is k h i)
 
 pub all-combined : (v c u : List ℤ)
     → table 9 (combined (table 9 (lineNodes v (at c 0) (at c 1) u 0 3 1)) (table 9 (lineNodes v (at c 2) (at c 3) u 6 1 3))) ≡ table 9 (localTendency (at v) (at c) (at u))

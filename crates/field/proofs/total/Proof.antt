@@ -40,20 +40,20 @@ returns-3 c = let a = c .before .before .before .before .before .before .before 
 tracer-start-requires : tie.Need-tracer-start-requires
 tracer-start-requires c κs = (small (c .before .before .before .before), c .if3 .left)
 
-tracer-length-requires : tie.Need-tracer-length-requires
-tracer-length-requires c κs = small (c .before .before .before .before .before)
+part-length-requires : tie.Need-part-length-requires
+part-length-requires c κs = small (c .before .before .before .before .before)
 
 -- the tracer's part ends within the field
-ends : (c : tie.After-tracer-length) → (c .before .tracer-start .result + c .tracer-length .result ≤ length (c .before .before .before .before .before .before .before .before .before .args .field .now)) × (c .before .tracer-start .result + c .tracer-length .result ≤ 327680)
+ends : (c : tie.After-part-length) → (c .before .tracer-start .result + c .part-length .result ≤ length (c .before .before .before .before .before .before .before .before .before .args .field .now)) × (c .before .tracer-start .result + c .part-length .result ≤ 327680)
 ends c =
     let a = c .before .before .before .before .before .before .before .before .before .args in
     let r = tracer-room (a .shape) (a .tracer) (c .before .before .if3 .left) in
-    (omega (arith, r, room (c .before .before .before .before), c .before .tracer-start .ensures, c .tracer-length .ensures), omega (arith, r, field-is (a .shape), field-le (a .shape) (small (c .before .before .before .before .before .before)), c .before .tracer-start .ensures, c .tracer-length .ensures))
+    (omega (arith, r, room (c .before .before .before .before), c .before .tracer-start .ensures, c .part-length .ensures), omega (arith, r, field-is (a .shape), field-le (a .shape) (small (c .before .before .before .before .before .before)), c .before .tracer-start .ensures, c .part-length .ensures))
 
 -- what is lent is the tracer's part
-lent-is : (c : tie.After-tracer-length) → take (c .before .tracer-start .result + c .tracer-length .result - c .before .tracer-start .result) (drop (c .before .tracer-start .result) (c .before .before .before .before .before .before .before .before .before .args .field .now)) ≡ part quadratic (c .before .before .before .before .before .before .before .before .before .args .shape) (c .before .before .before .before .before .before .before .before .before .args .tracer) (c .before .before .before .before .before .before .before .before .before .args .field .now)
+lent-is : (c : tie.After-part-length) → take (c .before .tracer-start .result + c .part-length .result - c .before .tracer-start .result) (drop (c .before .tracer-start .result) (c .before .before .before .before .before .before .before .before .before .args .field .now)) ≡ part quadratic (c .before .before .before .before .before .before .before .before .before .args .shape) (c .before .before .before .before .before .before .before .before .before .args .tracer) (c .before .before .before .before .before .before .before .before .before .args .field .now)
 unfolding part
-lent-is c = rw (add-sub-cancel-left (c .before .tracer-start .result) (c .tracer-length .result), c .before .tracer-start .ensures, c .tracer-length .ensures)
+lent-is c = rw (add-sub-cancel-left (c .before .tracer-start .result) (c .part-length .result), c .before .tracer-start .ensures, c .part-length .ensures)
 
 add-end : tie.Need-add-end
 add-end c = record { fits = omega (arith, ends c) }
@@ -74,4 +74,4 @@ returns-4 c =
     ∙ sym (total-searched (a .shape) (a .tracer) (a .field .now) (shape-is (c .before .before .before .before .before .before .before .before)) (room (c .before .before .before .before .before .before)) (c .before .before .before .before .if3 .left))
 
 pub total-spec : {M : Type 1} → statement M
-total-spec = tie.close (tie.spec (λ c κs. search needs) returns field-length-requires returns-2 returns-3 tracer-start-requires tracer-length-requires add-end mul-tracer-total (λ c. search needs) (λ c. search needs) part-tracer-total-end tracer-total-requires returns-4)
+total-spec = tie.close (tie.spec (λ c κs. search needs) returns field-length-requires returns-2 returns-3 tracer-start-requires part-length-requires add-end mul-tracer-total (λ c. search needs) (λ c. search needs) part-tracer-total-end tracer-total-requires returns-4)

@@ -13,7 +13,7 @@ use Rattle.field_search.specs.Search.{searched}
 use Rattle.rules.specs.Answers.{accepted, refused}
 use Rattle.rules.proofs.ShapeLaws.{elements-le, row-room, row-more}
 use Rattle.field_elements.proofs.ElementLaws.{numbersSum, numbers-more, weight-le}
-use Rattle.field_layout.proofs.PlaceLaws.{tracer-is}
+use Rattle.field_layout.proofs.PlaceLaws.{part-is}
 use Rattle.field_search.proofs.SearchLaws.{soundTo, totalTo, sound-next, total-next, searched-sound, searched-remainder, searched-excess}
 use Rattle.field_search.proofs.tracer_total.Statement.{statement}
 use Rattle.field_search.proofs.tracer_total.Tie as tie
@@ -45,7 +45,7 @@ room c =
     let b = c .before .before .before in
     let g = b .before .args .shape in
     let r = row-room (g .nx) (g .ny) (b .rows .j) (c .before .before .rows-test .taken) in
-    (omega (arith, r, tracer-is g), omega (arith, r, elements-le g (b .before .pre .0)))
+    (omega (arith, r, part-is g), omega (arith, r, elements-le g (b .before .pre .0)))
 
 rows-holds : tie.Need-rows-holds Inv-numbers μ-numbers Inv-elements μ-elements Inv-rows μ-rows
 unfolding soundTo totalTo all sum

@@ -4,7 +4,7 @@ use Prim.Native.Nat.{_-_, _*_, _≤_}
 use borrow.Author.Needs.{needs}
 use Rattle.rules.specs.Field.{quadratic}
 use Rattle.rules.proofs.ShapeLaws.{elements-le}
-use Rattle.field_layout.proofs.PlaceLaws.{tracer-le}
+use Rattle.field_layout.proofs.PlaceLaws.{part-le}
 use Rattle.file_layout.proofs.LayoutLaws.{wind-start, start-of, tracers-le}
 use Rattle.file_layout.proofs.section_start.Statement.{statement}
 use Rattle.file_layout.proofs.section_start.Tie as tie
@@ -16,11 +16,11 @@ mul-result : tie.Need-mul-result
 mul-result c = let b = c .before .before in record { fits = omega (arith, c .faces .ensures, elements-le (b .args .shape) (b .pre .0)) }
 
 mul-result-2 : tie.Need-mul-result-2
-mul-result-2 c = let b = c .before .before .before in record { fits = omega (arith, c .tracer-length .ensures, tracer-le (b .args .shape) (b .pre .0)) }
+mul-result-2 c = let b = c .before .before .before in record { fits = omega (arith, c .part-length .ensures, part-le (b .args .shape) (b .pre .0)) }
 
 -- the tracers before section i
-before : (c : tie.After-tracer-length) → (c .before .before .before .args .i - 1) * (4 * c .tracer-length .result) ≤ 1310720
-before c = let b = c .before .before .before in rw (c .tracer-length .ensures) (tracers-le (b .args .shape) (b .args .i - 1) (b .pre .0) (omega (arith, b .pre .1, b .pre .0 .tracers-small)))
+before : (c : tie.After-part-length) → (c .before .before .before .args .i - 1) * (4 * c .part-length .result) ≤ 1310720
+before c = let b = c .before .before .before in rw (c .part-length .ensures) (tracers-le (b .args .shape) (b .args .i - 1) (b .pre .0) (omega (arith, b .pre .1, b .pre .0 .tracers-small)))
 
 mul-result-3 : tie.Need-mul-result-3
 mul-result-3 c = record { fits = omega (arith, before c) }
@@ -31,7 +31,7 @@ add-result c = let b = c .before .before .before in record { fits = omega (arith
 returns-2 : tie.Need-returns-2
 returns-2 c =
     let b = c .before .before .before in
-    rw (c .before .faces .ensures, c .tracer-length .ensures) (sym (start-of quadratic (b .args .shape) (b .args .i) (omega (arith, c .before .before .if1 .left))))
+    rw (c .before .faces .ensures, c .part-length .ensures) (sym (start-of quadratic (b .args .shape) (b .args .i) (omega (arith, c .before .before .if1 .left))))
 
 pub section-start-spec : {M : Type 1} → statement M
 section-start-spec =

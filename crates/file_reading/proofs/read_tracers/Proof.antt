@@ -6,7 +6,7 @@ use borrow.Author.Needs.{needs}
 use lib.ListN.{length, drop}
 use Rattle.whole.specs.Table.{table, overwrite}
 use Rattle.whole.proofs.OverwriteLaws.{part-size, filled-front}
-use Rattle.rules.specs.Field.{quadratic, tracerLength, fieldLength}
+use Rattle.rules.specs.Field.{quadratic, partLength, fieldLength}
 use Rattle.rules.proofs.ShapeLaws.{row-more}
 use Rattle.field_layout.proofs.PlaceLaws.{tracer-room, field-is, field-le}
 use Rattle.file_layout.proofs.LayoutLaws.{tracer-span}
@@ -25,22 +25,22 @@ unfolding table
 loop-holds c = (omega arith, omega arith, refl, refl)
 
 -- the section of a turn
-span : (c : tie.After-section-start2 Inv-loop μ-loop) → (c .section-start2 .result ≡ c .before .section-start .result + 4 * tracerLength quadratic (c .before .before .before .before .before .before .before .args .shape)) × (c .section-start2 .result ≤ length (c .before .before .before .before .before .before .before .args .file .now))
+span : (c : tie.After-section-start2 Inv-loop μ-loop) → (c .section-start2 .result ≡ c .before .section-start .result + 4 * partLength quadratic (c .before .before .before .before .before .before .before .args .shape)) × (c .section-start2 .result ≤ length (c .before .before .before .before .before .before .before .args .file .now))
 span c =
     let s = c .before .before .before .before .before .before .before in
     let t = tracer-span (s .args .shape) (c .before .before .before .loop .s) (c .before .section-start .result) (c .section-start2 .result) (c .before .before .loop-test .taken) (c .before .section-start .ensures) (c .section-start2 .ensures) in
     (t .0, omega (arith, t .1, s .pre .1 .0))
 
 -- the tracer's part that a turn writes ends within the field
-room : (c : tie.In-loop Inv-loop μ-loop) → (c .before .loop .to + c .before .before .tracer-length .result ≤ length (c .before .loop .field)) × (c .before .loop .to + c .before .before .tracer-length .result ≤ 327680)
+room : (c : tie.In-loop Inv-loop μ-loop) → (c .before .loop .to + c .before .before .part-length .result ≤ length (c .before .loop .field)) × (c .before .loop .to + c .before .before .part-length .result ≤ 327680)
 room c =
     let l = c .before in
     let t = l .before in
     let s = t .before .before .before in
     let g = s .args .shape in
-    let e : l .loop .to ≡ l .loop .s * tracerLength quadratic g = l .loop .inv .1 ∙ ap (λ n. l .loop .s * n) (t .tracer-length .ensures) in
+    let e : l .loop .to ≡ l .loop .s * partLength quadratic g = l .loop .inv .1 ∙ ap (λ n. l .loop .s * n) (t .part-length .ensures) in
     let r = tracer-room g (l .loop .s) (c .loop-test .taken) in
-    (omega (arith, e, r, t .tracer-length .ensures, s .pre .1 .1, l .loop .inv .2), omega (arith, e, r, t .tracer-length .ensures, field-is g, field-le g (s .pre .0)))
+    (omega (arith, e, r, t .part-length .ensures, s .pre .1 .1, l .loop .inv .2), omega (arith, e, r, t .part-length .ensures, field-is g, field-le g (s .pre .0)))
 
 add-to-end : tie.Need-add-to-end Inv-loop μ-loop
 add-to-end c = record { fits = omega (arith, room (c .before .before)) }
@@ -65,8 +65,8 @@ read-numbers-requires c κs =
     let b = c .before .before in
     let l = b .before .before .before in
     let s = l .before .before .before .before in
-    let n = l .before .tracer-length .result in
-    (omega (arith, l .before .tracer-length .ensures, part-size (4 * tracerLength quadratic (s .args .shape)) (b .before .section-start .result) (b .section-start2 .result - b .before .section-start .result) (s .args .file .now) (omega (arith, span b)) (omega (arith, span b))), omega (arith, part-size n (l .loop .to) (l .loop .to + n - l .loop .to) (l .loop .field) (omega arith) (room (b .before .before) .0)))
+    let n = l .before .part-length .result in
+    (omega (arith, l .before .part-length .ensures, part-size (4 * partLength quadratic (s .args .shape)) (b .before .section-start .result) (b .section-start2 .result - b .before .section-start .result) (s .args .file .now) (omega (arith, span b)) (omega (arith, span b))), omega (arith, part-size n (l .loop .to) (l .loop .to + n - l .loop .to) (l .loop .field) (omega arith) (room (b .before .before) .0)))
 
 loop-again : tie.Need-loop-again Inv-loop μ-loop
 loop-again c =
@@ -75,9 +75,9 @@ loop-again c =
     let l = b .before .before .before in
     let t = l .before in
     let a = t .before .before .before .args in
-    let n = t .tracer-length .result in
+    let n = t .part-length .result in
     let next = tracer-read (a .shape) (a .file .now) (l .loop .s) (b .before .section-start .result) (b .section-start2 .result - b .before .section-start .result) (l .loop .to) n (l .loop .to + n - l .loop .to) (a .field .now) (l .loop .field) _
-    (b .before .section-start .ensures) (omega (arith, span b)) (t .tracer-length .ensures) (l .loop .inv .1) (omega arith) (room (b .before .before) .0) (l .loop .inv .3) (r .read-numbers .ensures) in
+    (b .before .section-start .ensures) (omega (arith, span b)) (t .part-length .ensures) (l .loop .inv .1) (omega arith) (room (b .before .before) .0) (l .loop .inv .3) (r .read-numbers .ensures) in
     (omega arith, omega (arith, row-more n (l .loop .s), l .loop .inv .1), search needs, next)
 
 returns : tie.Need-returns Inv-loop μ-loop
@@ -87,7 +87,7 @@ returns c =
     let a = t .before .before .before .args in
     let g = a .shape in
     let e : l .loop .s ≡ g .tracers = omega arith in
-    let n : l .loop .to ≡ fieldLength quadratic g = l .loop .inv .1 ∙ (λ i. e i * t .tracer-length .ensures i) ∙ sym (field-is g) in
+    let n : l .loop .to ≡ fieldLength quadratic g = l .loop .inv .1 ∙ (λ i. e i * t .part-length .ensures i) ∙ sym (field-is g) in
     (rw n at (l .loop .inv .3)) ∙ filled-front (fieldLength quadratic g) (fieldNumber g (a .file .now)) (a .field .now) ∙ ap (λ x. overwrite 0 x (a .field .now)) (field-numbers g (a .file .now))
 
 pub read-tracers-spec : {M : Type 1} → statement M

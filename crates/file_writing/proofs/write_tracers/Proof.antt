@@ -21,8 +21,8 @@ Inv-loop file₀ field tracers numbers start₀ from₀ k₀ file start from k =
 abbrev μ-loop : tie.MeasureT-loop
 μ-loop file₀ field tracers numbers start₀ from₀ k₀ file start from k = tracers - k
 
-tracer-length-requires : tie.Need-tracer-length-requires Inv-loop μ-loop
-tracer-length-requires c κs = c .before .before .pre .0
+part-length-requires : tie.Need-part-length-requires Inv-loop μ-loop
+part-length-requires c κs = c .before .before .pre .0
 
 faces-requires : tie.Need-faces-requires Inv-loop μ-loop
 faces-requires c κs = c .before .before .before .pre .0
@@ -32,19 +32,19 @@ mul-start c = record { fits = omega (arith, c .faces .ensures, elements-le (c .b
 
 loop-holds : tie.Need-loop-holds Inv-loop μ-loop
 unfolding blocks overwrite
-loop-holds c = let z : 0 * c .before .tracer-length .result ≡ 0 = zero-mul (c .before .tracer-length .result) in (omega arith, sym z, omega (arith, z), refl, rw z (sym (take-append-drop (2 * c .faces .result) (c .before .before .before .before .args .file .now))))
+loop-holds c = let z : 0 * c .before .part-length .result ≡ 0 = zero-mul (c .before .part-length .result) in (omega arith, sym z, omega (arith, z), refl, rw z (sym (take-append-drop (2 * c .faces .result) (c .before .before .before .before .args .file .now))))
 
 -- the tracer of a turn ends within the field, and its section within the file
 within : (c : tie.In-loop Inv-loop μ-loop)
-    → (c .before .loop .from + c .before .before .before .tracer-length .result ≤ fieldLength quadratic (c .before .before .before .before .before .before .args .shape)) × (c .before .loop .from + c .before .before .before .tracer-length .result ≤ 327680)
+    → (c .before .loop .from + c .before .before .before .part-length .result ≤ fieldLength quadratic (c .before .before .before .before .before .before .args .shape)) × (c .before .loop .from + c .before .before .before .part-length .result ≤ 327680)
 within c =
     let b = c .before .before .before .before .before .before in
     let l = c .before .loop in
-    let w = c .before .before .before .tracer-length in
+    let w = c .before .before .before .part-length in
     ends (b .args .shape) (b .args .field .now) (b .pre .1 .1) (l .k) (l .from) (w .result) (c .loop-test .taken) (l .inv .1) (w .ensures) (b .pre .0)
 
 section-ends : (c : tie.In-loop Inv-loop μ-loop)
-    → (c .before .loop .start + 4 * c .before .before .before .tracer-length .result ≤ length (c .before .before .before .before .before .before .args .file .now)) × (c .before .loop .start + 4 * c .before .before .before .tracer-length .result ≤ 2000000)
+    → (c .before .loop .start + 4 * c .before .before .before .part-length .result ≤ length (c .before .before .before .before .before .before .args .file .now)) × (c .before .loop .start + 4 * c .before .before .before .part-length .result ≤ 2000000)
 section-ends c =
     let b = c .before .before .before .before .before .before in
     let l = c .before .loop in
@@ -74,7 +74,7 @@ write-numbers-requires : tie.Need-write-numbers-requires Inv-loop μ-loop
 write-numbers-requires c κs =
     let n = c .before .before in
     let l = n .before .loop in
-    let w = n .before .before .before .tracer-length .result in
+    let w = n .before .before .before .part-length .result in
     let b = n .before .before .before .before .before .before in (
       omega (arith, part-size (4 * w) (l .start) (l .start + 4 * w - l .start) (l .file) (add-sub-cancel-left (l .start) (4 * w)) (omega (arith, section-ends n, l .inv .3))),
       omega (arith, part-size w (l .from) (l .from + w - l .from) (b .args .field .now) (add-sub-cancel-left (l .from) w) (omega (arith, within n, b .pre .1 .1))),
@@ -86,7 +86,7 @@ loop-again c =
     let n = t .before .before .before in
     let b = n .before .before .before .before .before .before in
     let l = n .before .loop in
-    let w = n .before .before .before .tracer-length .result in
+    let w = n .before .before .before .part-length .result in
     let f = n .before .before .faces .result in
     let file₀ = b .args .file .now in
     let next : (l .k + 1) * w ≡ l .k * w + w = rw (add-one (l .k)) (suc-mul (l .k) w) in
@@ -102,9 +102,9 @@ returns c =
     let b = c .before .before .before .before .before .before in
     let g = b .args .shape in
     let l = c .before .loop in
-    let w = c .before .before .before .tracer-length in
+    let w = c .before .before .before .part-length in
     let n : l .k * w .result ≡ fieldLength quadratic g = (λ i. (let e : l .k ≡ g .tracers = omega arith in e) i * w .ensures i) ∙ sym (field-is g) in
     rw (← n, ← (c .before .before .faces .ensures)) (l .inv .4)
 
 pub write-tracers-spec : {M : Type 1} → statement M
-write-tracers-spec = tie.close (tie.spec Inv-loop μ-loop tracer-length-requires faces-requires mul-start loop-holds mul-end add-end add-to (λ c. search needs) (λ c. search needs) part-write-numbers-end mul-write-numbers (λ c. search needs) (λ c. search needs) part-write-numbers-end-2 write-numbers-requires (λ c. search needs) (λ c. search needs) loop-again same-length returns)
+write-tracers-spec = tie.close (tie.spec Inv-loop μ-loop part-length-requires faces-requires mul-start loop-holds mul-end add-end add-to (λ c. search needs) (λ c. search needs) part-write-numbers-end mul-write-numbers (λ c. search needs) (λ c. search needs) part-write-numbers-end-2 write-numbers-requires (λ c. search needs) (λ c. search needs) loop-again same-length returns)

@@ -16,7 +16,7 @@ use Rattle.rules.proofs.StepLaws.{length-after}
 use Rattle.rules.specs.Stages.{stages}
 use Rattle.rules.proofs.ShapeLaws.{elements-le}
 use Rattle.field.proofs.CheckLaws.{call-refused, call-accepted}
-use Rattle.field_layout.proofs.PlaceLaws.{tracer-is, field-is, field-le, tracer-room}
+use Rattle.field_layout.proofs.PlaceLaws.{part-is, field-is, field-le, tracer-room}
 use Rattle.step.proofs.CheckLaws.{Stepping, stepping, plain-refused, report-refused, report-accepted, work-refused, work-accepted, part-back}
 use Rattle.step.proofs.step.Statement.{statement}
 use Rattle.step.proofs.step.Tie as tie
@@ -37,20 +37,20 @@ facts c = stepping (c .before .before .before .before .before .args .shape) (c .
 tracer-start-requires : tie.Need-tracer-start-requires
 tracer-start-requires c κs = let h = facts c in ((h .shape), h .tracer)
 
-tracer-length-requires : tie.Need-tracer-length-requires
-tracer-length-requires c κs = (facts (c .before) .shape)
+part-length-requires : tie.Need-part-length-requires
+part-length-requires c κs = (facts (c .before) .shape)
 
 -- the tracer's part ends within the field, and what is lent is that part
-ends : (c : tie.After-tracer-length) → (c .before .tracer-start .result + c .tracer-length .result ≤ length (c .before .before .before .before .before .before .before .args .field .now)) × (c .before .tracer-start .result + c .tracer-length .result ≤ 327680)
+ends : (c : tie.After-part-length) → (c .before .tracer-start .result + c .part-length .result ≤ length (c .before .before .before .before .before .before .before .args .field .now)) × (c .before .tracer-start .result + c .part-length .result ≤ 327680)
 ends c =
     let a = c .before .before .before .before .before .before .before .args in
     let h = facts (c .before .before) in
     let r = tracer-room (a .shape) (a .tracer) (h .tracer) in
-    (omega (arith, r, h .room, c .before .tracer-start .ensures, c .tracer-length .ensures), omega (arith, r, field-is (a .shape), field-le (a .shape) ((h .shape)), c .before .tracer-start .ensures, c .tracer-length .ensures))
+    (omega (arith, r, h .room, c .before .tracer-start .ensures, c .part-length .ensures), omega (arith, r, field-is (a .shape), field-le (a .shape) ((h .shape)), c .before .tracer-start .ensures, c .part-length .ensures))
 
-lent-is : (c : tie.After-tracer-length) → take (c .before .tracer-start .result + c .tracer-length .result - c .before .tracer-start .result) (drop (c .before .tracer-start .result) (c .before .before .before .before .before .before .before .args .field .now)) ≡ part quadratic (c .before .before .before .before .before .before .before .args .shape) (c .before .before .before .before .before .before .before .args .tracer) (c .before .before .before .before .before .before .before .args .field .now)
+lent-is : (c : tie.After-part-length) → take (c .before .tracer-start .result + c .part-length .result - c .before .tracer-start .result) (drop (c .before .tracer-start .result) (c .before .before .before .before .before .before .before .args .field .now)) ≡ part quadratic (c .before .before .before .before .before .before .before .args .shape) (c .before .before .before .before .before .before .before .args .tracer) (c .before .before .before .before .before .before .before .args .field .now)
 unfolding part
-lent-is c = rw (add-sub-cancel-left (c .before .tracer-start .result) (c .tracer-length .result), c .before .tracer-start .ensures, c .tracer-length .ensures)
+lent-is c = rw (add-sub-cancel-left (c .before .tracer-start .result) (c .part-length .result), c .before .tracer-start .ensures, c .part-length .ensures)
 
 add-end : tie.Need-add-end
 add-end c = record { fits = omega (arith, ends c) }
@@ -91,7 +91,7 @@ step-requires c κs =
     let t = c .before .before .before .before in
     let a = c .before .before .before .before .before .before .before .before .before .before .before .args in
     let h = facts (c .before .before .before .before .before .before) in
-    (h .shape, (ap length (lent-is t) ∙ part-length quadratic (a .shape) (a .tracer) (a .field .now) (h .tracer) (h .room) ∙ tracer-is (a .shape), (omega (arith, ap (total quadratic (a .shape)) (lent-is t), h .within-limit), (h .wind-range, (h .reports, omega (arith, lent-long (c .before .before .before), c .before .before .before .elements .ensures))))))
+    (h .shape, (ap length (lent-is t) ∙ part-length quadratic (a .shape) (a .tracer) (a .field .now) (h .tracer) (h .room) ∙ part-is (a .shape), (omega (arith, ap (total quadratic (a .shape)) (lent-is t), h .within-limit), (h .wind-range, (h .reports, omega (arith, lent-long (c .before .before .before), c .before .before .before .elements .ensures))))))
 
 same-length : tie.Need-same-length
 same-length c = search needs
@@ -119,7 +119,7 @@ returns-2 c =
     let a = c .before .before .before .before .before .before .before .before .before .before .before .before .before .before .before .before .args in
     let t = c .before .before .before .before .before .before .before .before .before in
     let s = c .before .before .before .before .before .before .before .before .before .before .tracer-start in
-    let n = t .tracer-length .result in
+    let n = t .part-length .result in
     let h = facts (c .before .before .before .before .before .before .before .before .before .before .before) in
     let l = lent (a .wind .now) (a .report .now) (a .work .now) in
     let w = windAt (a .wind .now) in
@@ -132,11 +132,11 @@ returns-2 c =
     let q = call-accepted (a .shape) (a .tracer) (step l) (a .field .now) _ e in (
       q .0,
       (
-        part-back (a .shape) (a .tracer) (s .result) (s .result + n - s .result) _ (tracerStep quadratic (a .shape) w p .part) (a .field .now) (s .ensures) (add-sub-cancel-left (s .result) n ∙ t .tracer-length .ensures)
+        part-back (a .shape) (a .tracer) (s .result) (s .result + n - s .result) _ (tracerStep quadratic (a .shape) w p .part) (a .field .now) (s .ensures) (add-sub-cancel-left (s .result) n ∙ t .part-length .ensures)
             (d .0 ∙ ap (λ x. tracerStep quadratic (a .shape) w x .part) (lent-is t)) (length-after quadratic (a .shape) (h .shape .nx-above) (h .shape .ny-above) w p (stages quadratic (a .shape) w p)) ∙ q .1,
         (d .1 ∙ ap (λ x. overwrite 0 (tracerStep quadratic (a .shape) w x .report) (a .report .now)) (lent-is t) ∙ report-accepted _ _ (a .report .now) e, work-accepted (a .shape) _ _ (a .work .now) x _ e (ap (λ k. x ++ drop (64 * k) (a .work .now)) (m .elements .ensures)) (back ∙ lent-long m ∙ ap (λ k. 64 * k) (m .elements .ensures)) (same-length-4 c)),
       ),
     )
 
 pub step-spec : {M : Type 1} → statement M
-step-spec = tie.close (tie.spec check-requires enum-known-checked enum-told tracer-start-requires tracer-length-requires add-end elements-requires mul-needed mul-step sub-step part-step-start part-step-end slice-relend-prefix-step slice-aggregate-step step-requires same-length returns same-length-2 same-length-3 same-length-4 returns-2)
+step-spec = tie.close (tie.spec check-requires enum-known-checked enum-told tracer-start-requires part-length-requires add-end elements-requires mul-needed mul-step sub-step part-step-start part-step-end slice-relend-prefix-step slice-aggregate-step step-requires same-length returns same-length-2 same-length-3 same-length-4 returns-2)

@@ -13,9 +13,9 @@ use Rattle.whole.specs.Bound.{Within, Are}
 use Rattle.whole.specs.Sum.{sumℤ}
 use Rattle.whole.proofs.SumLaws.{sumℤ-more}
 use Rattle.whole.proofs.Sizes.{sizes, exacts, fits, exact, are-eq}
-use Rattle.rules.proofs.StageBounds.{weights}
 use Rattle.step_fluxes.proofs.Laws.{term, terms-are, terms-within, reach}
 use Rattle.step_fluxes.proofs.face_sum.Statement.{statement}
+use Rattle.rules.proofs.QuadraticLaws.{lineWeights}
 use Rattle.step_fluxes.proofs.face_sum.Tie as tie
 
 abbrev Inv-loop : tie.InvT-loop
@@ -98,7 +98,7 @@ loop-again c =
     let t = term (a .work .now) (a .length) (a .start) (a .stride) in (
       omega arith,
       omega (arith, l .inv .1, mul-suc (a .stride) (l .r), ap (λ n. a .stride * n) (add-one (l .r))),
-      record { same = exact (search exacts depth 20) tt ∙ ap (λ x. sumℤ (l .r) t +ℤ getD weights (l .r) (pos 0) *ℤ (at w x +ℤ pos 4 *ℤ at w (2 * a .length + x) +ℤ at w (a .length + x))) (l .inv .1) ∙ sym (sumℤ-more (l .r) t); bound = terms-within (a .work .now) (a .length) (a .start) (a .stride) (b .pre .0) (b .pre .1) _ (omega arith) },
+      record { same = exact (search exacts depth 20) tt ∙ ap (λ x. sumℤ (l .r) t +ℤ getD lineWeights (l .r) (pos 0) *ℤ (at w x +ℤ pos 4 *ℤ at w (2 * a .length + x) +ℤ at w (a .length + x))) (l .inv .1) ∙ sym (sumℤ-more (l .r) t); bound = terms-within (a .work .now) (a .length) (a .start) (a .stride) (b .pre .0) (b .pre .1) _ (omega arith) },
     )
 
 returns : tie.Need-returns Inv-loop μ-loop

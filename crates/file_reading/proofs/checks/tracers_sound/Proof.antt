@@ -7,7 +7,7 @@ use borrow.Author.Tests.{not-true, not-false}
 use lib.ListN.{length}
 use Rattle.whole.specs.Sum.{all}
 use Rattle.whole.proofs.OverwriteLaws.{part-size}
-use Rattle.rules.specs.Field.{quadratic, part, sound, tracerLength}
+use Rattle.rules.specs.Field.{quadratic, part, sound, partLength}
 use Rattle.rules.specs.FieldFile.{fileField, fieldSound}
 use Rattle.whole.proofs.SumLaws.{all-more, all-fails}
 use Rattle.file_layout.proofs.LayoutLaws.{tracer-span}
@@ -26,7 +26,7 @@ unfolding all
 loop-holds c = (omega arith, refl)
 
 -- the section of a turn
-span : (c : tie.After-section-start2 Inv-loop μ-loop) → (c .section-start2 .result ≡ c .before .section-start .result + 4 * tracerLength quadratic (c .before .before .before .before .before .args .shape)) × (c .section-start2 .result ≤ length (c .before .before .before .before .before .args .file .now))
+span : (c : tie.After-section-start2 Inv-loop μ-loop) → (c .section-start2 .result ≡ c .before .section-start .result + 4 * partLength quadratic (c .before .before .before .before .before .args .shape)) × (c .section-start2 .result ≤ length (c .before .before .before .before .before .args .file .now))
 span c =
     let s = c .before .before .before .before .before in
     let t = tracer-span (s .args .shape) (c .before .before .before .loop .s) (c .before .section-start .result) (c .section-start2 .result) (c .before .before .loop-test .taken) (c .before .section-start .ensures) (c .section-start2 .ensures) in
@@ -45,7 +45,7 @@ tracer-sound-requires : tie.Need-tracer-sound-requires Inv-loop μ-loop
 tracer-sound-requires c κs =
     let b = c .before in
     let s = b .before .before .before .before .before in
-    (s .pre .0, part-size (4 * tracerLength quadratic (s .args .shape)) (b .before .section-start .result) (b .section-start2 .result - b .before .section-start .result) (s .args .file .now) (omega (arith, span b)) (omega (arith, span b)))
+    (s .pre .0, part-size (4 * partLength quadratic (s .args .shape)) (b .before .section-start .result) (b .section-start2 .result - b .before .section-start .result) (s .args .file .now) (omega (arith, span b)) (omega (arith, span b)))
 
 -- the test of a turn is of the tracer's part of the field
 tested : (c : tie.After-tracer-sound Inv-loop μ-loop) → c .tracer-sound .result ≡ sound quadratic (c .before .before .before .before .before .before .before .args .shape) (part quadratic (c .before .before .before .before .before .before .before .args .shape) (c .before .before .before .before .before .loop .s) (fileField quadratic (c .before .before .before .before .before .before .before .args .shape) (c .before .before .before .before .before .before .before .args .file .now)))

@@ -13,7 +13,7 @@ use Rattle.rules.specs.Field.{limit}
 use Rattle.rules.proofs.ShapeLaws.{elements-le, row-room, row-more}
 use Rattle.field_elements.specs.Weighing.{tenWeights}
 use Rattle.field_elements.proofs.ElementLaws.{numbersSum, numbers-more, weight-le}
-use Rattle.field_layout.proofs.PlaceLaws.{tracer-is}
+use Rattle.field_layout.proofs.PlaceLaws.{part-is}
 use Rattle.field_search.proofs.SearchLaws.{soundTo, totalTo, sound-next, total-next, searched-sound, searched-remainder, searched-excess, searched-yes, searched-no}
 use Rattle.file_sections.specs.Numbers.{numbersOf}
 use Rattle.file_sections.proofs.SectionLaws.{number-at}
@@ -88,7 +88,7 @@ number32-requires c κs =
     let e = c .before .before in
     let s = e .before .before .before .before .before in
     let r = room e in
-    omega (arith, s .pre .1, tracer-is (s .args .shape))
+    omega (arith, s .pre .1, part-is (s .args .shape))
 
 mul-sum-2 : tie.Need-mul-sum-2 Inv-numbers μ-numbers Inv-elements μ-elements Inv-rows μ-rows
 mul-sum-2 c = let n = c .before .before .before .numbers in record { fits = omega (arith, c .before .number32 .ok, weight-le (n .v) (c .before .number32 .result) (omega arith)) }
@@ -160,7 +160,7 @@ returns c =
     let p = held (a .section .now) (g .nx) (g .ny) in
     let j : r .j ≡ g .ny = omega arith in
     let n : r .j * g .nx ≡ g .nx * g .ny = rw j (mul-comm (g .ny) (g .nx)) in
-    rw (tracer-is g) (r .inv .0 ∙ sym (searched-yes g p (r .sum) (searched-sound g p (r .j * g .nx) (r .sum) n (r .inv .1) (r .inv .2) (r .inv .3))))
+    rw (part-is g) (r .inv .0 ∙ sym (searched-yes g p (r .sum) (searched-sound g p (r .j * g .nx) (r .sum) n (r .inv .1) (r .inv .2) (r .inv .3))))
 
 -- the element of a turn is there
 there : (c : tie.In-elements Inv-numbers μ-numbers Inv-elements μ-elements Inv-rows μ-rows)
@@ -179,7 +179,7 @@ returns-2 c =
     let k = e .before .before .before .rows .j * g .nx + e .before .elements .i in
     let p = held (a .section .now) (g .nx) (g .ny) in
     let here : e .before .elements .start + n .before .before .numbers .v ≡ k * 10 + 9 = omega (arith, c .before .if1 .taken, e .before .elements .inv .4) in
-    rw (tracer-is g) (sym (searched-no g p 6 (searched-remainder g p k (there e) (rw here at (rw (read n) at (c .if2 .taken))))))
+    rw (part-is g) (sym (searched-no g p 6 (searched-remainder g p k (there e) (rw here at (rw (read n) at (c .if2 .taken))))))
 
 returns-3 : tie.Need-returns-3 Inv-numbers μ-numbers Inv-elements μ-elements Inv-rows μ-rows
 returns-3 c =
@@ -189,7 +189,7 @@ returns-3 c =
     let g = a .shape in
     let k = e .before .before .before .rows .j * g .nx + e .before .elements .i in
     let p = held (a .section .now) (g .nx) (g .ny) in
-    rw (tracer-is g) (sym (searched-no g p 6 (searched-excess g p k (n .before .before .numbers .v + 1) (e .before .elements .start) (there e) (omega (arith, n .before .numbers-test .taken)) (e .before .elements .inv .4)
+    rw (part-is g) (sym (searched-no g p 6 (searched-excess g p k (n .before .before .numbers .v + 1) (e .before .elements .start) (there e) (omega (arith, n .before .numbers-test .taken)) (e .before .elements .inv .4)
     (rw (summed (c .before)) at (c .if3 .taken)))))
 
 pub tracer-sound-spec : {M : Type 1} → statement M

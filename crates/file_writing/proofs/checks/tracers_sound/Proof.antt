@@ -19,8 +19,8 @@ Inv-loop field shape tracers length start₀ s₀ start s = (s ≤ tracers) × (
 abbrev μ-loop : tie.MeasureT-loop
 μ-loop field shape tracers length start₀ s₀ start s = tracers - s
 
-tracer-length-requires : tie.Need-tracer-length-requires Inv-loop μ-loop
-tracer-length-requires c κs = c .before .pre .0
+part-length-requires : tie.Need-part-length-requires Inv-loop μ-loop
+part-length-requires c κs = c .before .pre .0
 
 loop-holds : tie.Need-loop-holds Inv-loop μ-loop
 unfolding all
@@ -28,11 +28,11 @@ loop-holds c = (omega arith, sym (zero-mul _), refl)
 
 -- the tracer of a turn ends within the field
 within : (c : tie.In-loop Inv-loop μ-loop)
-    → (c .before .loop .start + c .before .before .tracer-length .result ≤ fieldLength quadratic (c .before .before .before .before .args .shape)) × (c .before .loop .start + c .before .before .tracer-length .result ≤ 327680)
+    → (c .before .loop .start + c .before .before .part-length .result ≤ fieldLength quadratic (c .before .before .before .before .args .shape)) × (c .before .loop .start + c .before .before .part-length .result ≤ 327680)
 within c =
     let b = c .before .before .before .before in
     let l = c .before .loop in
-    ends (b .args .shape) (b .args .field .now) (b .pre .1) (l .s) (l .start) (c .before .before .tracer-length .result) (c .loop-test .taken) (l .inv .1) (c .before .before .tracer-length .ensures) (b .pre .0)
+    ends (b .args .shape) (b .args .field .now) (b .pre .1) (l .s) (l .start) (c .before .before .part-length .result) (c .loop-test .taken) (l .inv .1) (c .before .before .part-length .ensures) (b .pre .0)
 
 add-end : tie.Need-add-end Inv-loop μ-loop
 add-end c = record { fits = omega (arith, within c) }
@@ -47,7 +47,7 @@ tracer-total-requires : tie.Need-tracer-total-requires Inv-loop μ-loop
 tracer-total-requires c κs =
     let b = c .before .before .before .before .before in
     let l = c .before .before .loop in
-    (b .pre .0, lent-length (b .args .shape) (b .args .field .now) (b .pre .1) (l .s) (l .start) (c .before .before .before .tracer-length .result) (c .before .loop-test .taken) (l .inv .1) (c .before .before .before .tracer-length .ensures))
+    (b .pre .0, lent-length (b .args .shape) (b .args .field .now) (b .pre .1) (l .s) (l .start) (c .before .before .before .part-length .result) (c .before .loop-test .taken) (l .inv .1) (c .before .before .before .part-length .ensures))
 
 returns : tie.Need-returns Inv-loop μ-loop
 unfolding fieldSound
@@ -56,7 +56,7 @@ returns c =
     let n = t .before .before in
     let b = n .before .before .before .before in
     let l = n .before .loop in
-    let w = n .before .before .tracer-length in
+    let w = n .before .before .part-length in
     let g = b .args .shape in
     let f = b .args .field .now in
     sym (all-fails (g .tracers) (λ k. sound quadratic g (part quadratic g k f)) (l .s) (n .loop-test .taken)
@@ -68,7 +68,7 @@ loop-again c =
     let n = t .before .before in
     let b = n .before .before .before .before in
     let l = n .before .loop in
-    let w = n .before .before .tracer-length in
+    let w = n .before .before .part-length in
     let g = b .args .shape in
     let f = b .args .field .now in
     let next : (l .s + 1) * w .result ≡ l .s * w .result + w .result = rw (add-one (l .s)) (suc-mul (l .s) (w .result)) in (
@@ -83,4 +83,4 @@ unfolding fieldSound
 returns-2 c = let e : c .before .loop .s ≡ c .before .before .before .before .args .shape .tracers = omega arith in sym (rw e at (c .before .loop .inv .2))
 
 pub tracers-sound-spec : {M : Type 1} → statement M
-tracers-sound-spec = tie.close (tie.spec Inv-loop μ-loop tracer-length-requires loop-holds add-end mul-tracer-total (λ c. search needs) (λ c. search needs) part-tracer-total-end tracer-total-requires (λ c. search needs) (λ c. search needs) returns (λ c. search needs) (λ c. search needs) loop-again returns-2)
+tracers-sound-spec = tie.close (tie.spec Inv-loop μ-loop part-length-requires loop-holds add-end mul-tracer-total (λ c. search needs) (λ c. search needs) part-tracer-total-end tracer-total-requires (λ c. search needs) (λ c. search needs) returns (λ c. search needs) (λ c. search needs) loop-again returns-2)
