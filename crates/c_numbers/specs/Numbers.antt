@@ -20,7 +20,7 @@ faceOf (suc zero) i j c = record { way = North; i = i; j = j; wind = c }
 faceOf (suc (suc n)) i j c = record { way = East; i = 64; j = 0; wind = c }
 
 -- 0 for an accepted call, else the refusal's number
-unfoldable pub code : {A : Type 0} → Answer A → ℕ
+unfoldable pub code : Answer (Unit {0}) → ℕ
 code (accepted x) = 0
 code (refused n) = n
 
@@ -44,3 +44,13 @@ pub record AdmittedShape (a : Answer Shape) : Type 0 where
 -- an answered number is at most the limit
 pub record Small (a : Answer ℕ) : Type 0 where
   pub small : (n : ℕ) → a ≡ accepted n → n ≤ 100000000
+
+-- what is told of an answer by its number
+abbrev pub coded : ℕ → Answer (Unit {0}) → Type 0
+coded r a = r ≡ code a
+
+abbrev pub numbered : ℤ → Answer ℕ → Type 0
+numbered r a = r ≡ numberOr a
+
+abbrev pub shaped : ℤ → Answer Shape → Type 0
+shaped r a = r ≡ shapeOr a

@@ -6,13 +6,12 @@ use Prim.Native.Nat.{ℕ, _+_, _≤_, _<_}
 use native.Mathlib.Omega.{arith}
 use borrow.Author.Tests.{lt-leb, le-leb, lt-ltb, le-ltb}
 use lib.Dec.{leb, ltb, leb→le, ltb→lt}
-use lib.IntN.{ℤ}
 use lib.ListN.{length}
 use Rattle.whole.proofs.Cases.{both-yes}
 use Rattle.rules.specs.declared.Shape.{Shape}
 use Rattle.rules.specs.Answers.{Answer, accepted, refused, Check, check, answer, plain}
 use Rattle.rules.specs.Field.{quadratic, admitted, element, onGrid, fieldLength, part, withPart, mass, total, limit, Admitted}
-use Rattle.rules.specs.Calls.{Operation, emission, withdrawal, Lent, lentEnough, soundIfThere, checks, done, call, massReading, totalReading}
+use Rattle.rules.specs.Calls.{Operation, emission, withdrawal, Lent, lentEnough, soundIfThere, checks, done, call, massReading, totalReading, Reply, noReport}
 use Rattle.field_layout.specs.Places.{Inside}
 use Rattle.field_search.specs.Search.{searched}
 use Rattle.rules.proofs.AnswerLaws.{answer-ind, prefix-refused, prefix-accepted, after-refused, after-accepted}
@@ -39,7 +38,7 @@ module _ (g : Shape) (s : ℕ) (f : List ℕ) where
     pub room : fieldLength quadratic g ≤ length f
     pub tracer : s < g .tracers
     pub sum : t ≡ total quadratic g p
-    pub small : t ≤ 100000000
+    pub small : t ≤ limit
 
   pub found : (t : ℕ) → totalReading quadratic g s f ≡ accepted t → Found t
   unfolding totalReading
@@ -54,16 +53,16 @@ module _ (g : Shape) (s : ℕ) (f : List ℕ) where
       })
 
   -- the calls go on from there: those that are lent nothing beside the field
-  going-on : (ds : List Check) → _≡_ {A = Answer (List ℤ)}
-      (answer (check 2 (admitted g) ∷ check 4 (leb (fieldLength quadratic g) (length f) && true) ∷ check 6 (soundIfThere quadratic g (ltb s (g .tracers)) p) ∷ check 7 (ltb s (g .tracers)) ∷ ds) [])
-      (answer (first ++ ds) [])
-  going-on ds = λ k. answer (check 2 (admitted g) ∷ check 4 (and-true (leb (fieldLength quadratic g) (length f)) k) ∷ check 6 (soundIfThere quadratic g (ltb s (g .tracers)) p) ∷ check 7 (ltb s (g .tracers)) ∷ ds) []
+  going-on : (ds : List Check) → _≡_ {A = Answer Reply}
+      (answer (check 2 (admitted g) ∷ check 4 (leb (fieldLength quadratic g) (length f) && true) ∷ check 6 (soundIfThere quadratic g (ltb s (g .tracers)) p) ∷ check 7 (ltb s (g .tracers)) ∷ ds) noReport)
+      (answer (first ++ ds) noReport)
+  going-on ds = λ k. answer (check 2 (admitted g) ∷ check 4 (and-true (leb (fieldLength quadratic g) (length f)) k) ∷ check 6 (soundIfThere quadratic g (ltb s (g .tracers)) p) ∷ check 7 (ltb s (g .tracers)) ∷ ds) noReport
 
-  pub emission-reply : (i j q : ℕ) → call quadratic g s (emission i j q) f .reply ≡ answer (first ++ (check 8 (onGrid g i j) ∷ check 9 (leb (total quadratic g p + q) limit) ∷ [])) []
+  pub emission-reply : (i j q : ℕ) → call quadratic g s (emission i j q) f .reply ≡ answer (first ++ (check 8 (onGrid g i j) ∷ check 9 (leb (total quadratic g p + q) limit) ∷ [])) noReport
   unfolding call checks lentEnough done
   emission-reply i j q = going-on (check 8 (onGrid g i j) ∷ check 9 (leb (total quadratic g p + q) limit) ∷ [])
 
-  pub withdrawal-reply : (i j q : ℕ) → call quadratic g s (withdrawal i j q) f .reply ≡ answer (first ++ (check 8 (onGrid g i j) ∷ check 10 (leb q (mass quadratic p (element g i j))) ∷ [])) []
+  pub withdrawal-reply : (i j q : ℕ) → call quadratic g s (withdrawal i j q) f .reply ≡ answer (first ++ (check 8 (onGrid g i j) ∷ check 10 (leb q (mass quadratic p (element g i j))) ∷ [])) noReport
   unfolding call checks lentEnough done
   withdrawal-reply i j q = going-on (check 8 (onGrid g i j) ∷ check 10 (leb q (mass quadratic p (element g i j))) ∷ [])
 
@@ -132,7 +131,7 @@ module _ (g : Shape) (s i j : ℕ) (f : List ℕ) where
     pub within : Inside g s i j
     pub room : fieldLength quadratic g ≤ length f
     pub is : h ≡ m
-    pub small : h ≤ 100000000
+    pub small : h ≤ limit
 
   pub held : (h : ℕ) → massReading quadratic g s i j f ≡ accepted h → Held h
   unfolding massReading
@@ -151,15 +150,15 @@ module _ (g : Shape) (s i j : ℕ) (f : List ℕ) where
 
   pub withdrawal-refused : (q n : ℕ) → massReading quadratic g s i j f ≡ refused n → call quadratic g s (withdrawal i j q) f .reply ≡ refused n
   unfolding massReading
-  withdrawal-refused q n e = withdrawal-reply g s f i j q ∙ prefix-refused five (check 10 (leb q m) ∷ []) m [] n e
+  withdrawal-refused q n e = withdrawal-reply g s f i j q ∙ prefix-refused five (check 10 (leb q m) ∷ []) m noReport n e
 
   pub withdrawal-over : (q h : ℕ) → massReading quadratic g s i j f ≡ accepted h → h < q → call quadratic g s (withdrawal i j q) f .reply ≡ refused 10
   unfolding massReading answer
-  withdrawal-over q h e b = withdrawal-reply g s f i j q ∙ prefix-accepted five (check 10 (leb q m) ∷ []) m h [] e ∙ (rw (← (held h e .is), lt-leb _ _ b))
+  withdrawal-over q h e b = withdrawal-reply g s f i j q ∙ prefix-accepted five (check 10 (leb q m) ∷ []) m h noReport e ∙ (rw (← (held h e .is), lt-leb _ _ b))
 
-  pub withdrawal-accepted : (q h : ℕ) → massReading quadratic g s i j f ≡ accepted h → q ≤ h → call quadratic g s (withdrawal i j q) f .reply ≡ accepted []
+  pub withdrawal-accepted : (q h : ℕ) → massReading quadratic g s i j f ≡ accepted h → q ≤ h → call quadratic g s (withdrawal i j q) f .reply ≡ accepted noReport
   unfolding massReading answer
-  withdrawal-accepted q h e b = withdrawal-reply g s f i j q ∙ prefix-accepted five (check 10 (leb q m) ∷ []) m h [] e ∙ (rw (← (held h e .is), le-leb _ _ b))
+  withdrawal-accepted q h e b = withdrawal-reply g s f i j q ∙ prefix-accepted five (check 10 (leb q m) ∷ []) m h noReport e ∙ (rw (← (held h e .is), le-leb _ _ b))
 
 -- what a refused and an accepted call leave
 module _ (g : Shape) (s : ℕ) (op : Operation Lent) (f : List ℕ) where
@@ -167,7 +166,7 @@ module _ (g : Shape) (s : ℕ) (op : Operation Lent) (f : List ℕ) where
   unfolding call plain
   call-refused n e = (sym (ap plain e), sym (after-refused (call quadratic g s op f .reply) n _ f e))
 
-  pub call-accepted : (r : List ℤ) → call quadratic g s op f .reply ≡ accepted r
+  pub call-accepted : (r : Reply) → call quadratic g s op f .reply ≡ accepted r
       → (accepted tt ≡ plain (call quadratic g s op f .reply)) × (withPart quadratic g s (done quadratic g op (part quadratic g s f) .part) f ≡ call quadratic g s op f .field)
   unfolding call plain
   call-accepted r e = (sym (ap plain e), sym (after-accepted (call quadratic g s op f .reply) r _ f e))
@@ -177,16 +176,16 @@ module _ (g : Shape) (s i j q : ℕ) (f : List ℕ) where
   rest9 = check 8 (onGrid g i j) ∷ check 9 (leb (total quadratic g (part quadratic g s f) + q) limit) ∷ []
 
   pub emission-refused : (n : ℕ) → totalReading quadratic g s f ≡ refused n → call quadratic g s (emission i j q) f .reply ≡ refused n
-  emission-refused n e = emission-reply g s f i j q ∙ first-refused g s f rest9 [] n e
+  emission-refused n e = emission-reply g s f i j q ∙ first-refused g s f rest9 noReport n e
 
   pub emission-off-grid : (t : ℕ) → totalReading quadratic g s f ≡ accepted t → onGrid g i j ≡ false → call quadratic g s (emission i j q) f .reply ≡ refused 8
   unfolding answer
-  emission-off-grid t e o = emission-reply g s f i j q ∙ first-accepted g s f rest9 [] t e ∙ (rw o)
+  emission-off-grid t e o = emission-reply g s f i j q ∙ first-accepted g s f rest9 noReport t e ∙ (rw o)
 
-  pub emission-above : (t : ℕ) → totalReading quadratic g s f ≡ accepted t → onGrid g i j ≡ true → 100000000 < t + q → call quadratic g s (emission i j q) f .reply ≡ refused 9
+  pub emission-above : (t : ℕ) → totalReading quadratic g s f ≡ accepted t → onGrid g i j ≡ true → limit < t + q → call quadratic g s (emission i j q) f .reply ≡ refused 9
   unfolding answer
-  emission-above t e o b = emission-reply g s f i j q ∙ first-accepted g s f rest9 [] t e ∙ (rw (o, ← (found g s f t e .sum), lt-leb _ _ b))
+  emission-above t e o b = emission-reply g s f i j q ∙ first-accepted g s f rest9 noReport t e ∙ (rw (o, ← (found g s f t e .sum), lt-leb _ _ b))
 
-  pub emission-accepted : (t : ℕ) → totalReading quadratic g s f ≡ accepted t → onGrid g i j ≡ true → t + q ≤ 100000000 → call quadratic g s (emission i j q) f .reply ≡ accepted []
+  pub emission-accepted : (t : ℕ) → totalReading quadratic g s f ≡ accepted t → onGrid g i j ≡ true → t + q ≤ limit → call quadratic g s (emission i j q) f .reply ≡ accepted noReport
   unfolding answer
-  emission-accepted t e o b = emission-reply g s f i j q ∙ first-accepted g s f rest9 [] t e ∙ (rw (o, ← (found g s f t e .sum), le-leb _ _ b))
+  emission-accepted t e o b = emission-reply g s f i j q ∙ first-accepted g s f rest9 noReport t e ∙ (rw (o, ← (found g s f t e .sum), le-leb _ _ b))

@@ -14,10 +14,10 @@ use Rattle.whole.proofs.SumLaws.{sum-cong}
 use Rattle.rules.specs.declared.Shape.{Shape}
 use Rattle.rules.specs.declared.Face.{Face}
 use Rattle.rules.specs.Answers.{Answer, accepted, refused, answer, after, plain}
-use Rattle.rules.specs.Field.{quadratic, admitted, elements, faces, onGrid, partLength, fieldLength, withPart, weighted, mass, total, limit}
+use Rattle.rules.specs.Field.{quadratic, admitted, elements, faces, onGrid, partLength, fieldLength, withPart, weighted, mass, total, limit, elementsLength}
 use Rattle.rules.specs.Grid.{faceIndex}
 use Rattle.rules.specs.Calls.{windInRange, windReply, windAfter, freshReply, freshField, freshWind, zeroField, zeroWind, load, loaded, loadedElement, loadedValue, lentEnough, checks, done, call}
-use Rattle.rules.proofs.PartLaws.{mass-loaded, length-loaded}
+use Rattle.rules.proofs.PartLaws.{mass-loaded, length-loaded, part-is-elements}
 use Rattle.rules.proofs.ShapeLaws.{admitted-is}
 use Rattle.field_layout.specs.Places.{Inside}
 
@@ -116,7 +116,7 @@ module _ (g : Shape) (s : ℕ) (numbers field : List ℕ) where
   load-done a l k t m = rw (a, le-leb (fieldLength quadratic g) (length field) l, le-leb (elements g * 9) (length numbers) k, lt-ltb s (g .tracers) t, le-leb (total quadratic g (loaded quadratic g numbers)) limit m) (refl, refl)
 
   -- the part that was lent and written, back in its place
-  pub load-back : (at k : ℕ) (p : List ℕ) → at ≡ s * partLength quadratic g → k ≡ partLength quadratic g → p ≡ blocks (elements g) (loadedElement quadratic numbers)
+  pub load-back : (at k : ℕ) (p : List ℕ) → at ≡ s * partLength quadratic g → k ≡ elementsLength quadratic g → p ≡ blocks (elements g) (loadedElement quadratic numbers)
       → take at field ++ (p ++ drop k (drop at field)) ≡ withPart quadratic g s (loaded quadratic g numbers) field
   unfolding withPart overwrite
-  load-back at k p ha hk hp = rw (ha, hk ∙ sym (length-loaded quadratic g numbers), hp ∙ loaded-is g numbers)
+  load-back at k p ha hk hp = rw (ha, hk ∙ sym (part-is-elements quadratic g) ∙ sym (length-loaded quadratic g numbers), hp ∙ loaded-is g numbers)

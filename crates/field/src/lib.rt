@@ -1,19 +1,19 @@
 // The calls on a field: fresh, wind, load, emission, withdrawal and the readings.
 // A call has no `requires`: what document 01 doesn't admit is refused by its number, and a refused call writes nothing.
-ghost use mathlib.Core.Path.{_≡_};
-ghost use Rattle.rules.specs.Answers.{outcome, reading, plain};
 ghost use Rattle.rules.specs.Field.{quadratic};
-ghost use Rattle.rules.specs.Calls.{load, emission, withdrawal, call, massReading, totalReading, freshReply, freshField, freshWind, windReply, windAfter};
+ghost use Rattle.rules.specs.Calls.{load, emission, withdrawal, massReading, totalReading, answers, reads, CallGives, FreshGives, WindGives};
 use field_search::LIMIT;
 use rules::Face;
 use rules::Outcome;
 use rules::Reading;
 use rules::Refusal;
 use rules::Shape;
+use rules::element::NODES;
+use rules::element::NUMBERS;
 
 // A tracer's total. Its checks (2, 4, 6, 7) are the first ones of `mass`, `emission` and `withdrawal`, too.
 pub fn total(field: &[u32], shape: Shape, tracer: usize) -> Reading
-    ensures { λ r. ⌜ reading r ≡ totalReading quadratic shape tracer (now (field .entry)) ⌝ }
+    ensures { λ r. ⌜ reads r (totalReading quadratic shape tracer (now (field .entry))) ⌝ }
 {
     if !field_layout::admitted(shape) {
         return Reading::Refused(Refusal::BadShape);
@@ -31,7 +31,7 @@ pub fn total(field: &[u32], shape: Shape, tracer: usize) -> Reading
 
 // An element's mass.
 pub fn mass(field: &[u32], shape: Shape, tracer: usize, i: usize, j: usize) -> Reading
-    ensures { λ r. ⌜ reading r ≡ massReading quadratic shape tracer i j (now (field .entry)) ⌝ }
+    ensures { λ r. ⌜ reads r (massReading quadratic shape tracer i j (now (field .entry))) ⌝ }
 {
     let found = total(field, shape, tracer);
     match found {
@@ -41,7 +41,7 @@ pub fn mass(field: &[u32], shape: Shape, tracer: usize, i: usize, j: usize) -> R
                 return Reading::Refused(Refusal::NoSuchElement);
             }
             let start = field_layout::element_start(shape, tracer, i, j);
-            let end = start + 10;
+            let end = start + NUMBERS;
             Reading::Number(field_elements::element::mass(&field[start..end]))
         }
     }
@@ -56,8 +56,7 @@ pub fn emission(
     j: usize,
     q: u64,
 ) -> Outcome
-    ensures { λ r. ⌜ outcome r ≡ plain (call quadratic shape tracer (emission i j q) (now (field .entry)) .reply) ⌝ }
-    ensures { λ _. ⌜ now (field .exit) ≡ call quadratic shape tracer (emission i j q) (now (field .entry)) .field ⌝ }
+    ensures { λ r. ⌜ CallGives quadratic shape tracer (emission i j q) (now (field .entry)) (answers r) (now (field .exit)) ⌝ }
 {
     let found = total(field, shape, tracer);
     match found {
@@ -70,7 +69,7 @@ pub fn emission(
                 return Outcome::Refused(Refusal::TotalAboveLimit);
             }
             let start = field_layout::element_start(shape, tracer, i, j);
-            let end = start + 10;
+            let end = start + NUMBERS;
             field_elements::element::emit(&mut field[start..end], q);
             Outcome::Accepted
         }
@@ -86,8 +85,7 @@ pub fn withdrawal(
     j: usize,
     q: u64,
 ) -> Outcome
-    ensures { λ r. ⌜ outcome r ≡ plain (call quadratic shape tracer (withdrawal i j q) (now (field .entry)) .reply) ⌝ }
-    ensures { λ _. ⌜ now (field .exit) ≡ call quadratic shape tracer (withdrawal i j q) (now (field .entry)) .field ⌝ }
+    ensures { λ r. ⌜ CallGives quadratic shape tracer (withdrawal i j q) (now (field .entry)) (answers r) (now (field .exit)) ⌝ }
 {
     let found = mass(field, shape, tracer, i, j);
     match found {
@@ -97,7 +95,7 @@ pub fn withdrawal(
                 return Outcome::Refused(Refusal::MassTooSmall);
             }
             let start = field_layout::element_start(shape, tracer, i, j);
-            let end = start + 10;
+            let end = start + NUMBERS;
             field_elements::element::withdraw(&mut field[start..end], q);
             Outcome::Accepted
         }
@@ -106,8 +104,7 @@ pub fn withdrawal(
 
 // Load: nine numbers for each element of a tracer; every element is replaced.
 pub fn load(field: &mut [u32], numbers: &[u32], shape: Shape, tracer: usize) -> Outcome
-    ensures { λ r. ⌜ outcome r ≡ plain (call quadratic shape tracer (load (now (numbers .entry))) (now (field .entry)) .reply) ⌝ }
-    ensures { λ _. ⌜ now (field .exit) ≡ call quadratic shape tracer (load (now (numbers .entry))) (now (field .entry)) .field ⌝ }
+    ensures { λ r. ⌜ CallGives quadratic shape tracer (load (now (numbers .entry))) (now (field .entry)) (answers r) (now (field .exit)) ⌝ }
 {
     if !field_layout::admitted(shape) {
         return Outcome::Refused(Refusal::BadShape);
@@ -116,7 +113,7 @@ pub fn load(field: &mut [u32], numbers: &[u32], shape: Shape, tracer: usize) -> 
         return Outcome::Refused(Refusal::ShortBuffer);
     }
     let n = field_layout::elements(shape);
-    if numbers.len() < n * 9 {
+    if numbers.len() < n * NODES {
         return Outcome::Refused(Refusal::ShortBuffer);
     }
     if shape.tracers <= tracer {
@@ -126,16 +123,14 @@ pub fn load(field: &mut [u32], numbers: &[u32], shape: Shape, tracer: usize) -> 
         return Outcome::Refused(Refusal::TotalAboveLimit);
     }
     let start = field_layout::tracer_start(shape, tracer);
-    let end = start + field_layout::part_length(shape);
+    let end = start + field_layout::elements_length(shape);
     field_elements::fill::lay(&mut field[start..end], numbers, n);
     Outcome::Accepted
 }
 
 // Fresh: zeros in field and wind.
 pub fn fresh(field: &mut [u32], winds: &mut [i16], shape: Shape) -> Outcome
-    ensures { λ r. ⌜ outcome r ≡ freshReply quadratic shape (now (field .entry)) (now (winds .entry)) ⌝ }
-    ensures { λ _. ⌜ now (field .exit) ≡ freshField quadratic shape (now (field .entry)) (now (winds .entry)) ⌝ }
-    ensures { λ _. ⌜ now (winds .exit) ≡ freshWind quadratic shape (now (field .entry)) (now (winds .entry)) ⌝ }
+    ensures { λ r. ⌜ FreshGives quadratic shape (now (field .entry)) (now (winds .entry)) (answers r) (now (field .exit)) (now (winds .exit)) ⌝ }
 {
     if !field_layout::admitted(shape) {
         return Outcome::Refused(Refusal::BadShape);
@@ -155,8 +150,7 @@ pub fn fresh(field: &mut [u32], winds: &mut [i16], shape: Shape) -> Outcome
 
 // Wind: one face gets a new wind.
 pub fn wind(winds: &mut [i16], shape: Shape, face: Face) -> Outcome
-    ensures { λ r. ⌜ outcome r ≡ windReply shape face (now (winds .entry)) ⌝ }
-    ensures { λ _. ⌜ now (winds .exit) ≡ windAfter shape face (now (winds .entry)) ⌝ }
+    ensures { λ r. ⌜ WindGives shape face (now (winds .entry)) (answers r) (now (winds .exit)) ⌝ }
 {
     let new = face.wind;
     if !field_layout::admitted(shape) {

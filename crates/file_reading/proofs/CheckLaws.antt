@@ -75,7 +75,7 @@ pub given : (file : List ℕ) (g : Shape) → tailReply file ≡ accepted g → 
 unfolding tailReply
 given file g = answer-ind (λ a. a ≡ accepted g → Given file g) (tailChecks file) (tailShape file)
     (λ n e. let z : _≡_ {A = ℕ} 0 1 = cc in absurd (omega arith))
-    (λ c e. let q : tailShape file ≡ g = cc in record { same = q; sizes = subst Admitted q ((ranges (tailShape file) (c .1 .0))) })
+    (λ c e. let q : tailShape file ≡ g = cc in record { same = q; sizes = subst Admitted q (ranges (tailShape file) (c .1 .0)) })
 
 -- ---- the call
 module _ (file field : List ℕ) (wind : List ℤ) where

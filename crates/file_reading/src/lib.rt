@@ -4,9 +4,8 @@ ghost use mathlib.Core.Path.{_≡_};
 ghost use Prim.Native.Nat.{_≤_};
 ghost use lib.ListN.{length};
 ghost use Rattle.whole.specs.Table.{overwrite};
-ghost use Rattle.rules.specs.Answers.{fileAnswer};
 ghost use Rattle.rules.specs.Field.{quadratic, faces, fieldLength, Admitted};
-ghost use Rattle.rules.specs.FieldFile.{fileLength, fileWind, fileField, readReply, readField, readWind};
+ghost use Rattle.rules.specs.FieldFile.{fileLength, fileWind, fileField, finds, ReadGives};
 ghost use Rattle.file_reading.specs.Reading.{tailAnswer};
 use rules::FileRead;
 use rules::Outcome;
@@ -18,7 +17,7 @@ mod tail; // tail.rt: the last 12 bytes
 
 // What the tail gives, as an answer of `read`, which asks for it only where there is no shape.
 fn answer_of(tail: Tail) -> FileRead
-    ensures { λ r. ⌜ fileAnswer r ≡ tailAnswer tail ⌝ }
+    ensures { λ r. ⌜ finds r (tailAnswer tail) ⌝ }
 {
     match tail {
         Tail::Shape(shape) => FileRead::Found(shape),
@@ -59,9 +58,7 @@ fn read_tracers(file: &[u8], field: &mut [u32], shape: Shape)
 
 // Reads a file into field and wind, and answers its shape.
 pub fn read(file: &[u8], field: &mut [u32], wind: &mut [i16]) -> FileRead
-    ensures { λ r. ⌜ fileAnswer r ≡ readReply quadratic (now (file .entry)) (now (field .entry)) (now (wind .entry)) ⌝ }
-    ensures { λ _. ⌜ now (field .exit) ≡ readField quadratic (now (file .entry)) (now (field .entry)) (now (wind .entry)) ⌝ }
-    ensures { λ _. ⌜ now (wind .exit) ≡ readWind quadratic (now (file .entry)) (now (field .entry)) (now (wind .entry)) ⌝ }
+    ensures { λ r. ⌜ ReadGives quadratic (now (file .entry)) (now (field .entry)) (now (wind .entry)) (finds r) (now (field .exit)) (now (wind .exit)) ⌝ }
 {
     let tail = tail::read_tail(file);
     let Tail::Shape(shape) = tail else {

@@ -11,7 +11,7 @@ use Rattle.rules.specs.declared.Reading.{Reading}
 use Rattle.rules.specs.declared.Reading.the-variants as Reading
 use Rattle.rules.specs.declared.FileRead.{FileRead}
 use Rattle.rules.specs.declared.FileRead.the-variants as FileRead
-use Rattle.rules.specs.Answers.{accepted, reading, fileAnswer}
+use Rattle.rules.specs.Answers.{accepted}
 use Rattle.rules.specs.Field.{Kind, quadratic, faces, fieldLength}
 use Rattle.rules.specs.FieldFile.{readReply, readField, readWind, writeReply, writeFile}
 
@@ -29,18 +29,7 @@ pub record ReadIsWritten (κ : Kind) (g : Shape) (file field : List ℕ) (wind :
   pub size : writeReply κ g (readField κ file field wind) (readWind κ file field wind) out ≡ accepted (length file)
   pub bytes : writeFile κ g (readField κ file field wind) (readWind κ file field wind) out ≡ overwrite 0 file out
 
--- ---- over the calls: what the `ensures` lines of each say of its answer r and of its buffers at exit, written out again
--- `write` of shape g with `field` and `wind` into `file`, which is `file′` at exit
-pub record Wrote (g : Shape) (field : List ℕ) (wind : List ℤ) (file : List ℕ) (r : Reading) (file′ : List ℕ) : Type 0 where
-  pub answers : reading r ≡ writeReply quadratic g field wind file
-  pub leaves : file′ ≡ writeFile quadratic g field wind file
-
--- `read` of `file` into `field` and `wind`, which are `field′` and `wind′` at exit
-pub record Read (file field : List ℕ) (wind : List ℤ) (r : FileRead) (field′ : List ℕ) (wind′ : List ℤ) : Type 0 where
-  pub answers : fileAnswer r ≡ readReply quadratic file field wind
-  pub leaves-field : field′ ≡ readField quadratic file field wind
-  pub leaves-wind : wind′ ≡ readWind quadratic file field wind
-
+-- ---- over the calls, of which nothing is known but what their contracts say (`ReadGives`, `WriteGives`)
 -- the answer r and the buffers of a `read` that finds the field and wind that were written, where it was lent `field₀` and `wind₀`
 pub record FoundAgain (g : Shape) (field : List ℕ) (wind : List ℤ) (field₀ : List ℕ) (wind₀ : List ℤ) (r : FileRead) (field′ : List ℕ) (wind′ : List ℤ) : Type 0 where
   pub answer : r ≡ FileRead.Found g

@@ -4,9 +4,9 @@ ghost use mathlib.Core.Path.{_≡_};
 ghost use Prim.Native.Nat.{_*_, _+_, _≤_};
 ghost use lib.ListN.{length, getD};
 ghost use Rattle.whole.specs.Table.{blocks, overwrite};
-ghost use Rattle.rules.specs.Answers.{reading};
 ghost use Rattle.rules.specs.Field.{quadratic, faces, fieldLength, Admitted};
-ghost use Rattle.rules.specs.FieldFile.{bytes32, sectionStart, fileLength, tail, fileOf, writeReply, writeFile};
+ghost use Rattle.rules.specs.Calls.{reads};
+ghost use Rattle.rules.specs.FieldFile.{bytes32, sectionStart, fileLength, tail, fileOf, WriteGives};
 use file_layout::MARK;
 use rules::Reading;
 use rules::Shape;
@@ -83,8 +83,7 @@ fn write_parts(file: &mut [u8], field: &[u32], wind: &[i16], shape: Shape)
 
 // Writes a field and a wind of this shape to a file, and answers its length in bytes.
 pub fn write(file: &mut [u8], field: &[u32], wind: &[i16], shape: Shape) -> Reading
-    ensures { λ r. ⌜ reading r ≡ writeReply quadratic shape (now (field .entry)) (now (wind .entry)) (now (file .entry)) ⌝ }
-    ensures { λ _. ⌜ now (file .exit) ≡ writeFile quadratic shape (now (field .entry)) (now (wind .entry)) (now (file .entry)) ⌝ }
+    ensures { λ r. ⌜ WriteGives quadratic shape (now (field .entry)) (now (wind .entry)) (now (file .entry)) (reads r) (now (file .exit)) ⌝ }
 {
     let checked = checks::check(file, field, wind, shape);
     match checked {

@@ -16,7 +16,7 @@ use Rattle.whole.proofs.OverwriteLaws.{part-room, length-overwrite, overwrite-i
 use Rattle.rules.specs.declared.Shape.{Shape}
 use Rattle.rules.specs.Answers.{Answer, accepted, refused}
 use Rattle.rules.specs.Field.{Kind, elements, elementLength, partLength, fieldLength, part, withPart, cell, remainder, weighted, mass, total, weightSum}
-use Rattle.rules.specs.Calls.{Operation, load, emission, withdrawal, step, Lent, call, done, zeroField}
+use Rattle.rules.specs.Calls.{Operation, load, emission, withdrawal, step, Lent, Reply, call, done, zeroField}
 use Rattle.rules.specs.Ledger.{entry}
 use Rattle.rules.proofs.PartLaws.{node-lt, Good, part-length}
 use Rattle.rules.proofs.LedgerLaws.{entry-cong}
@@ -32,7 +32,7 @@ module _ (κ : Kind) (g : Shape) where
     pub agree : (s : ℕ) → s < g .tracers → (e : ℕ) → e < elements g → held s e ≡ pos (mass κ (part κ g s field) e)
 
   -- what is lent does not enter the ledger
-  entry-lend : (b : Buffers) (w : List ℤ) (op : Operation (Unit {0})) (a : Answer (List ℤ)) (held : ℕ → ℤ) (e : ℕ) → entry κ g (lend b w op) a held e ≡ entry κ g op a held e
+  entry-lend : (b : Buffers) (w : List ℤ) (op : Operation (Unit {0})) (a : Answer Reply) (held : ℕ → ℤ) (e : ℕ) → entry κ g (lend b w op) a held e ≡ entry κ g op a held e
   unfolding entry lend
   entry-lend b w (load l) (refused n) held e = refl
   entry-lend b w (emission i j q) (refused n) held e = refl
@@ -72,7 +72,7 @@ module _ (κ : Kind) (g : Shape) where
       kept a = operation-law κ g hw (a .shape .nx-above) (a .shape .ny-above) lent _ (part κ g s field) (f .good s (a .tracer)) (a .passed)
 
       -- of the named tracer: the operation's law; of any other: nothing changed
-      accepted-agrees : (a : Accepted κ g s lent field) → Agreeing new (line κ g (on s op) (accepted (done κ g lent (part κ g s field) .report)) held)
+      accepted-agrees : (a : Accepted κ g s lent field) → Agreeing new (line κ g (on s op) (accepted (done κ g lent (part κ g s field) .reply)) held)
       unfolding line
       accepted-agrees a = record {
         room = subst (λ x. fieldLength κ g ≤ x) (sym (long a)) (f .room);
@@ -84,8 +84,8 @@ module _ (κ : Kind) (g : Shape) where
             (λ y. cond-no (eqb s t) _ _ y ∙ f .agree t h e l ∙ ap (λ x. pos (mass κ x e)) (sym (elsewhere a t (neqb→ne s t y))));
       }
         where
-          r : Answer (List ℤ)
-          r = accepted (done κ g lent (part κ g s field) .report)
+          r : Answer Reply
+          r = accepted (done κ g lent (part κ g s field) .reply)
 
           same : (e : ℕ) → e < elements g → entry κ g op r (held s) e ≡ pos (mass κ (part κ g s new) e)
           same e l = sym (entry-lend b w op r (held s) e) ∙ entry-cong κ g lent r (held s) (λ e. pos (mass κ (part κ g s field) e)) e (f .agree s (a .tracer) e l)

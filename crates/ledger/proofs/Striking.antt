@@ -4,13 +4,12 @@ use mathlib.Core.Bool.{Bool, true, false, not, cond}
 use mathlib.Core.List.{List, [], _∷_}
 use Prim.Native.Nat.{ℕ, _≤_}
 use lib.Dec.{T, eqb→eq}
-use lib.IntN.{ℤ}
 use lib.ListN.{length}
 use Rattle.whole.proofs.Cases.{neqb→ne}
 use Rattle.rules.specs.declared.Shape.{Shape}
 use Rattle.rules.specs.Answers.{Answer}
 use Rattle.rules.specs.Field.{Kind, fieldLength, part}
-use Rattle.rules.specs.Calls.{Operation, Lent, call, windReply, windAfter}
+use Rattle.rules.specs.Calls.{Operation, Lent, Reply, call, windReply, windAfter}
 use Rattle.rules.proofs.FieldLaws.{call-length, call-other, reply-same, part-after-same}
 use Rattle.ledger.specs.Lists.{Call, windCall, on, State, Buffers, lend, unreported, Performed, perform, run, stays, strike, repliesLeft}
 
@@ -67,7 +66,7 @@ module _ (κ : Kind) (g : Shape) (b : Buffers) (s : ℕ) where
       (record { reply = call κ g z (lend b (x .wind) op) (y .field) .reply; state = record { field = call κ g z (lend b (x .wind) op) (y .field) .field; wind = y .wind } }))
       (sym (eqb→eq t s m)) (on-s (lend b (x .wind) op) x y h))
 
-  pub record Struck (cs ks : List Call) (x y : State) (left : List (Answer (List ℤ))) : Type 0 where
+  pub record Struck (cs ks : List Call) (x y : State) (left : List (Answer Reply)) : Type 0 where
     pub ends : Like (run κ g b cs x .end) (run κ g b ks y .end)
     pub replies-left : run κ g b ks y .replies ≡ left
 

@@ -15,7 +15,7 @@ use Rattle.ledger.proofs.Striking.{Like, struck}
 
 -- for any kind of element whose weights sum to more than 0, every shape, buffers of any content that are long enough, every list
 pub demand-3-of : (κ : Kind) → 0 < weightSum κ → (g : Shape) (b : Buffers) (field : List ℕ) (wind : List ℤ) → fieldLength κ g ≤ length field → (calls : List Call)
-    → Demand3 κ g b field wind (weightSum κ) limit calls
+    → Demand3 κ g b (fresh κ g field wind) (weightSum κ) limit calls
 demand-3-of κ hw g b field wind room calls =
     let agrees = list-agrees κ g hw field wind room b calls in
     let start = fresh-agrees κ g hw field wind room in
@@ -30,6 +30,6 @@ demand-3-of κ hw g b field wind room calls =
     }
 
 -- DEMAND 3 of document 01's quadratic elements
-pub demand-3 : (g : Shape) (b : Buffers) (field : List ℕ) (wind : List ℤ) → fieldLength quadratic g ≤ length field → (calls : List Call) → Demand3 quadratic g b field wind 36 100000000 calls
+pub demand-3 : (g : Shape) (b : Buffers) (field : List ℕ) (wind : List ℤ) → fieldLength quadratic g ≤ length field → (calls : List Call) → Demand3 quadratic g b (fresh quadratic g field wind) 36 limit calls
 demand-3 g b field wind room calls =
-    subst (λ n. Demand3 quadratic g b field wind n 100000000 calls) weights-36 (demand-3-of quadratic (subst (λ n. 0 < n) (sym weights-36) (omega arith)) g b field wind room calls)
+    subst (λ n. Demand3 quadratic g b (fresh quadratic g field wind) n limit calls) weights-36 (demand-3-of quadratic (subst (λ n. 0 < n) (sym weights-36) (omega arith)) g b field wind room calls)

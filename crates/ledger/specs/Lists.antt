@@ -9,7 +9,7 @@ use Rattle.rules.specs.declared.Shape.{Shape}
 use Rattle.rules.specs.declared.Face.{Face}
 use Rattle.rules.specs.Answers.{Answer, accepted, refused}
 use Rattle.rules.specs.Field.{Kind}
-use Rattle.rules.specs.Calls.{Operation, load, emission, withdrawal, step, Lent, call, windReply, windAfter, zeroField, zeroWind}
+use Rattle.rules.specs.Calls.{Operation, load, emission, withdrawal, step, Lent, Reply, noReport, call, windReply, windAfter, zeroField, zeroWind}
 use Rattle.rules.specs.Ledger.{entry}
 
 -- "A call is on the smoke whose number it names"; a load's numbers stand in the call, and a step finds the wind as it stands
@@ -40,14 +40,14 @@ lend b w (withdrawal i j q) = withdrawal i j q
 lend b w (step u) = step (record { wind = w; reportLength = b .reportLength; workLength = b .workLength })
 
 -- an answer with no report
-unfoldable pub unreported : Answer (Unit {0}) → Answer (List ℤ)
-unreported (accepted u) = accepted []
+unfoldable pub unreported : Answer (Unit {0}) → Answer Reply
+unreported (accepted u) = accepted noReport
 unreported (refused n) = refused n
 
 module _ (κ : Kind) (g : Shape) (b : Buffers) where
-  -- a call's answer, "An accepted step's answer there includes the report as that step left it", and the state after it
+  -- a call's answer and the state after it
   pub record Performed : Type 0 where
-    pub reply : Answer (List ℤ)
+    pub reply : Answer Reply
     pub state : State
 
   unfoldable pub perform : Call → State → Performed
@@ -59,7 +59,7 @@ module _ (κ : Kind) (g : Shape) (b : Buffers) where
 
   -- the answers of all calls of a list, and the state after the last
   pub record Ran : Type 0 where
-    pub replies : List (Answer (List ℤ))
+    pub replies : List (Answer Reply)
     pub end : State
 
   -- the list from a state on: "each call gets field and wind as the one before left them"
@@ -74,20 +74,20 @@ module _ (κ : Kind) (g : Shape) (b : Buffers) where
 -- ---- the ledger: one whole number per tracer and element, fed with calls and answers
 module _ (κ : Kind) (g : Shape) where
   -- "Wind calls and refused calls change nothing."
-  unfoldable pub line : Call → Answer (List ℤ) → (ℕ → ℕ → ℤ) → ℕ → ℕ → ℤ
+  unfoldable pub line : Call → Answer Reply → (ℕ → ℕ → ℤ) → ℕ → ℕ → ℤ
   unfolding entry
   line (windCall f) a held s e = held s e
   line (on t op) a held s e = cond (eqb t s) (entry κ g op a (held s) e) (held s e)
 
   -- the numbers after a list of calls and their answers, from the numbers `held` before it
-  unfoldable pub ledgerFrom : (ℕ → ℕ → ℤ) → List Call → List (Answer (List ℤ)) → ℕ → ℕ → ℤ
+  unfoldable pub ledgerFrom : (ℕ → ℕ → ℤ) → List Call → List (Answer Reply) → ℕ → ℕ → ℤ
   unfolding line
   ledgerFrom held [] replies = held
   ledgerFrom held (c ∷ cs) [] = held
   ledgerFrom held (c ∷ cs) (a ∷ replies) = ledgerFrom (line c a held) cs replies
 
   -- "0 at the start"
-  unfoldable pub ledger : List Call → List (Answer (List ℤ)) → ℕ → ℕ → ℤ
+  unfoldable pub ledger : List Call → List (Answer Reply) → ℕ → ℕ → ℤ
   unfolding ledgerFrom
   ledger cs replies = ledgerFrom (λ s e. pos 0) cs replies
 
@@ -102,7 +102,7 @@ strike s [] = []
 strike s (c ∷ cs) = cond (stays s c) (c ∷ strike s cs) (strike s cs)
 
 -- the answers of the calls that are left
-unfoldable pub repliesLeft : ℕ → List Call → List (Answer (List ℤ)) → List (Answer (List ℤ))
+unfoldable pub repliesLeft : ℕ → List Call → List (Answer Reply) → List (Answer Reply)
 unfolding stays
 repliesLeft s [] replies = []
 repliesLeft s (c ∷ cs) [] = []

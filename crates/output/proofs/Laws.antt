@@ -20,7 +20,7 @@ use Rattle.rules.specs.Field.{quadratic, faces, part}
 use Rattle.rules.specs.Grid.{faceIndex}
 use Rattle.rules.specs.Stages.{stages}
 use Rattle.rules.specs.Step.{tracerStep}
-use Rattle.rules.specs.Calls.{step, lengthsLent, Called, call, windAt, totalReading, reportAfter}
+use Rattle.rules.specs.Calls.{step, lengthsLent, Called, call, windAt, totalReading, reportAfter, Reply}
 use Rattle.rules.specs.Program.{gridLine, faceLine, faceRow, faceLines, totalLine, tracerLines, next, Printed, reportLent, workLent, stepped, upTo}
 use Rattle.rules.proofs.StepLaws.{report-length}
 use Rattle.text.specs.Added.{Added}
@@ -55,8 +55,8 @@ module _ (g : Shape) (wind : List ℤ) (s : ℕ) (field : List ℕ) (rl wl : ℕ
   c = call quadratic g s (step (lengthsLent wind rl wl)) field
 
   -- what `stepped` goes on with
-  abbrev rest : List ℕ → List ℤ → Answer Printed
-  rest after report = next (totalReading quadratic g s after) (λ total. accepted (record { text = tracerLines g s report total; field = after }))
+  abbrev rest : List ℕ → Reply → Answer Printed
+  rest after r = next (totalReading quadratic g s after) (λ total. accepted (record { text = tracerLines g s (r .report) total; field = after }))
 
   stepped-is : stepped g wind s field ≡ next (c .reply) (rest (c .field))
   unfolding stepped
@@ -70,21 +70,21 @@ module _ (g : Shape) (wind : List ℤ) (s : ℕ) (field : List ℕ) (rl wl : ℕ
     abbrev rep : List ℤ
     rep = tracerStep quadratic g (windAt wind) (part quadratic g s field) .report
 
-    answers : stepped g wind s field ≡ rest (c .field) rep
+    answers : stepped g wind s field ≡ rest (c .field) (record { report = rep })
     answers = stepped-is ∙ ap (λ a. next a (rest (c .field))) (stepping g s field wind rl wl e .answers)
 
     pub total-refused : (n : ℕ) (after : List ℕ) → after ≡ c .field → totalReading quadratic g s after ≡ refused n → stepped g wind s field ≡ refused n
-    total-refused n after f q = answers ∙ ap (λ x. rest x rep) (sym f) ∙ ap (λ a. next a (λ total. accepted (record { text = tracerLines g s rep total; field = after }))) q
+    total-refused n after f q = answers ∙ ap (λ x. rest x (record { report = rep })) (sym f) ∙ ap (λ a. next a (λ total. accepted (record { text = tracerLines g s rep total; field = after }))) q
 
     pub lines-accepted : (t : ℕ) (after : List ℕ) → after ≡ c .field → totalReading quadratic g s after ≡ accepted t → stepped g wind s field ≡ accepted (record { text = tracerLines g s rep t; field = after })
-    lines-accepted t after f q = answers ∙ ap (λ x. rest x rep) (sym f) ∙ ap (λ a. next a (λ total. accepted (record { text = tracerLines g s rep total; field = after }))) q
+    lines-accepted t after f q = answers ∙ ap (λ x. rest x (record { report = rep })) (sym f) ∙ ap (λ a. next a (λ total. accepted (record { text = tracerLines g s rep total; field = after }))) q
 
     -- the lines that are printed from the report buffer
     pub lines-are : (t : ℕ) (old new : List ℤ) → new ≡ reportAfter (c .reply) old → faces g ≤ length old → tracerLines g s new t ≡ tracerLines g s rep t
     unfolding tracerStep
     lines-are t old new q room =
         let p = stepping g s field wind rl wl e in
-        ap (λ l. tracerLines g s l t) (q ∙ sym (report-accepted (c .reply) rep old (p .answers)))
+        ap (λ l. tracerLines g s l t) (q ∙ sym (report-accepted (c .reply) (record { report = rep }) old (p .answers)))
         ∙ lines-kept g s t rep old (report-length quadratic g (p .shape .nx-above) (p .shape .ny-above) (windAt wind) (part quadratic g s field) (stages quadratic g (windAt wind) (part quadratic g s field))) room
 
 -- ---- all tracers: after the line of the grid, the first s of them stand in the buffer from place `start` on

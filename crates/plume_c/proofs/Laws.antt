@@ -1,11 +1,9 @@
--- What the calls answer: their codes, and that their numbers are small.
-use mathlib.Core.Path.{_≡_, refl, ap, _∙_}
+-- The numbers that the calls answer are small.
 use mathlib.Core.List.{List}
 use Prim.Native.Nat.{ℕ}
 use native.Mathlib.Omega.{arith}
 use lib.IntN.{ℤ}
 use Rattle.rules.specs.declared.Shape.{Shape}
-use Rattle.rules.specs.Answers.{Answer, accepted, refused, plain}
 use Rattle.rules.specs.Field.{quadratic}
 use Rattle.rules.specs.Calls.{massReading, totalReading}
 use Rattle.rules.specs.FieldFile.{readReply, writeReply}
@@ -13,17 +11,7 @@ use Rattle.rules.proofs.ShapeLaws.{ranges}
 use Rattle.field.proofs.CheckLaws.{found, held}
 use Rattle.file_layout.proofs.LayoutLaws.{length-le}
 use Rattle.file_layout.proofs.ReplyLaws.{read-shown, write-shown}
-use Rattle.c_numbers.specs.Numbers.{code, Small, AdmittedShape}
-
--- whether a call was accepted is all that its code says
-pub code-plain : {A : Type 0} (a : Answer A) → code (plain a) ≡ code a
-unfolding code plain
-code-plain (accepted x) = refl
-code-plain (refused n) = refl
-
--- a call's code from what its answer says
-pub code-of : {A : Type 0} {r : ℕ} {b : Answer (Unit {0})} (a : Answer A) → r ≡ code b → b ≡ plain a → r ≡ code a
-code-of a e p = e ∙ ap code p ∙ code-plain a
+use Rattle.c_numbers.specs.Numbers.{Small, AdmittedShape}
 
 -- ---- readings are small
 pub total-answers : (g : Shape) (s : ℕ) (f : List ℕ) → Small (totalReading quadratic g s f)
@@ -34,7 +22,7 @@ mass-answers g s i j f = record { small = λ n e. held g s i j f n e .small }
 
 -- ---- the answers of the field file are small
 pub read-answers : (file field : List ℕ) (wind : List ℤ) → AdmittedShape (readReply quadratic file field wind)
-read-answers file field wind = record { small = λ g e. (ranges g (read-shown quadratic g file field wind e .ranges)) }
+read-answers file field wind = record { small = λ g e. ranges g (read-shown quadratic g file field wind e .ranges) }
 
 pub write-answers : (g : Shape) (field : List ℕ) (wind : List ℤ) (file : List ℕ) → Small (writeReply quadratic g field wind file)
-write-answers g field wind file = record { small = λ n e. let w = write-shown quadratic g field wind file n e in omega (arith, w .1, length-le g ((ranges g (w .0 .ranges)))) }
+write-answers g field wind file = record { small = λ n e. let w = write-shown quadratic g field wind file n e in omega (arith, w .1, length-le g (ranges g (w .0 .ranges))) }

@@ -1,10 +1,10 @@
 // Calls for C: numbers and buffers in, a number out. include/plume.h declares them.
 // An answer is 0 where the call is accepted, else the refusal's number; a reading's is its number, or the refusal's number negated.
-ghost use mathlib.Core.Path.{_≡_};
+// What each gives is what the call of the library gives, told by these numbers.
 ghost use Rattle.rules.specs.Field.{quadratic};
-ghost use Rattle.rules.specs.Calls.{load, emission, withdrawal, call, stepCall, reportAfter, WorkAfter, massReading, totalReading, freshReply, freshField, freshWind, windReply, windAfter};
-ghost use Rattle.rules.specs.FieldFile.{readReply, readField, readWind, writeReply, writeFile};
-ghost use Rattle.c_numbers.specs.Numbers.{shapeOf, faceOf, code, numberOr, shapeOr};
+ghost use Rattle.rules.specs.Calls.{load, emission, withdrawal, massReading, totalReading, CallGives, StepGives, FreshGives, WindGives};
+ghost use Rattle.rules.specs.FieldFile.{ReadGives, WriteGives};
+ghost use Rattle.c_numbers.specs.Numbers.{shapeOf, faceOf, coded, numbered, shaped};
 use rules::Shape;
 
 // Zeros in field and wind.
@@ -16,9 +16,7 @@ pub extern "C" fn plume_fresh(
     ny: usize,
     smokes: usize,
 ) -> u8
-    ensures { λ r. ⌜ r ≡ code (freshReply quadratic (shapeOf nx ny smokes) (now (field .entry)) (now (wind .entry))) ⌝ }
-    ensures { λ _. ⌜ now (field .exit) ≡ freshField quadratic (shapeOf nx ny smokes) (now (field .entry)) (now (wind .entry)) ⌝ }
-    ensures { λ _. ⌜ now (wind .exit) ≡ freshWind quadratic (shapeOf nx ny smokes) (now (field .entry)) (now (wind .entry)) ⌝ }
+    ensures { λ r. ⌜ FreshGives quadratic (shapeOf nx ny smokes) (now (field .entry)) (now (wind .entry)) (coded r) (now (field .exit)) (now (wind .exit)) ⌝ }
 {
     let shape = Shape {
         nx,
@@ -40,8 +38,7 @@ pub extern "C" fn plume_wind(
     j: usize,
     c: i16,
 ) -> u8
-    ensures { λ r. ⌜ r ≡ code (windReply (shapeOf nx ny smokes) (faceOf way i j c) (now (wind .entry))) ⌝ }
-    ensures { λ _. ⌜ now (wind .exit) ≡ windAfter (shapeOf nx ny smokes) (faceOf way i j c) (now (wind .entry)) ⌝ }
+    ensures { λ r. ⌜ WindGives (shapeOf nx ny smokes) (faceOf way i j c) (now (wind .entry)) (coded r) (now (wind .exit)) ⌝ }
 {
     let shape = Shape {
         nx,
@@ -62,8 +59,7 @@ pub extern "C" fn plume_load(
     smokes: usize,
     smoke: usize,
 ) -> u8
-    ensures { λ r. ⌜ r ≡ code (call quadratic (shapeOf nx ny smokes) smoke (load (now (numbers .entry))) (now (field .entry)) .reply) ⌝ }
-    ensures { λ _. ⌜ now (field .exit) ≡ call quadratic (shapeOf nx ny smokes) smoke (load (now (numbers .entry))) (now (field .entry)) .field ⌝ }
+    ensures { λ r. ⌜ CallGives quadratic (shapeOf nx ny smokes) smoke (load (now (numbers .entry))) (now (field .entry)) (coded r) (now (field .exit)) ⌝ }
 {
     let shape = Shape {
         nx,
@@ -85,8 +81,7 @@ pub extern "C" fn plume_emission(
     j: usize,
     q: u64,
 ) -> u8
-    ensures { λ r. ⌜ r ≡ code (call quadratic (shapeOf nx ny smokes) smoke (emission i j q) (now (field .entry)) .reply) ⌝ }
-    ensures { λ _. ⌜ now (field .exit) ≡ call quadratic (shapeOf nx ny smokes) smoke (emission i j q) (now (field .entry)) .field ⌝ }
+    ensures { λ r. ⌜ CallGives quadratic (shapeOf nx ny smokes) smoke (emission i j q) (now (field .entry)) (coded r) (now (field .exit)) ⌝ }
 {
     let shape = Shape {
         nx,
@@ -108,8 +103,7 @@ pub extern "C" fn plume_withdrawal(
     j: usize,
     q: u64,
 ) -> u8
-    ensures { λ r. ⌜ r ≡ code (call quadratic (shapeOf nx ny smokes) smoke (withdrawal i j q) (now (field .entry)) .reply) ⌝ }
-    ensures { λ _. ⌜ now (field .exit) ≡ call quadratic (shapeOf nx ny smokes) smoke (withdrawal i j q) (now (field .entry)) .field ⌝ }
+    ensures { λ r. ⌜ CallGives quadratic (shapeOf nx ny smokes) smoke (withdrawal i j q) (now (field .entry)) (coded r) (now (field .exit)) ⌝ }
 {
     let shape = Shape {
         nx,
@@ -131,10 +125,7 @@ pub extern "C" fn plume_step(
     smokes: usize,
     smoke: usize,
 ) -> u8
-    ensures { λ r. ⌜ r ≡ code (stepCall quadratic (shapeOf nx ny smokes) smoke (now (field .entry)) (now (wind .entry)) (now (report .entry)) (now (work .entry)) .reply) ⌝ }
-    ensures { λ _. ⌜ now (field .exit) ≡ stepCall quadratic (shapeOf nx ny smokes) smoke (now (field .entry)) (now (wind .entry)) (now (report .entry)) (now (work .entry)) .field ⌝ }
-    ensures { λ _. ⌜ now (report .exit) ≡ reportAfter (stepCall quadratic (shapeOf nx ny smokes) smoke (now (field .entry)) (now (wind .entry)) (now (report .entry)) (now (work .entry)) .reply) (now (report .entry)) ⌝ }
-    ensures { λ _. ⌜ WorkAfter (shapeOf nx ny smokes) (stepCall quadratic (shapeOf nx ny smokes) smoke (now (field .entry)) (now (wind .entry)) (now (report .entry)) (now (work .entry)) .reply) (now (work .entry)) (now (work .exit)) ⌝ }
+    ensures { λ r. ⌜ StepGives quadratic (shapeOf nx ny smokes) smoke (now (field .entry)) (now (wind .entry)) (now (report .entry)) (now (work .entry)) (coded r) (now (field .exit)) (now (report .exit)) (now (work .exit)) ⌝ }
 {
     let shape = Shape {
         nx,
@@ -155,7 +146,7 @@ pub extern "C" fn plume_mass(
     i: usize,
     j: usize,
 ) -> i64
-    ensures { λ r. ⌜ r ≡ numberOr (massReading quadratic (shapeOf nx ny smokes) smoke i j (now (field .entry))) ⌝ }
+    ensures { λ r. ⌜ numbered r (massReading quadratic (shapeOf nx ny smokes) smoke i j (now (field .entry))) ⌝ }
 {
     let shape = Shape {
         nx,
@@ -174,7 +165,7 @@ pub extern "C" fn plume_total(
     smokes: usize,
     smoke: usize,
 ) -> i64
-    ensures { λ r. ⌜ r ≡ numberOr (totalReading quadratic (shapeOf nx ny smokes) smoke (now (field .entry))) ⌝ }
+    ensures { λ r. ⌜ numbered r (totalReading quadratic (shapeOf nx ny smokes) smoke (now (field .entry))) ⌝ }
 {
     let shape = Shape {
         nx,
@@ -187,9 +178,7 @@ pub extern "C" fn plume_total(
 // Reads a field file: its shape as nx + 256 ny + 65536 K.
 #[no_mangle]
 pub extern "C" fn plume_read(field: &mut [u32], wind: &mut [i16], file: &[u8]) -> i64
-    ensures { λ r. ⌜ r ≡ shapeOr (readReply quadratic (now (file .entry)) (now (field .entry)) (now (wind .entry))) ⌝ }
-    ensures { λ _. ⌜ now (field .exit) ≡ readField quadratic (now (file .entry)) (now (field .entry)) (now (wind .entry)) ⌝ }
-    ensures { λ _. ⌜ now (wind .exit) ≡ readWind quadratic (now (file .entry)) (now (field .entry)) (now (wind .entry)) ⌝ }
+    ensures { λ r. ⌜ ReadGives quadratic (now (file .entry)) (now (field .entry)) (now (wind .entry)) (shaped r) (now (field .exit)) (now (wind .exit)) ⌝ }
 {
     c_numbers::shape_or(file_reading::read(file, field, wind))
 }
@@ -204,8 +193,7 @@ pub extern "C" fn plume_write(
     ny: usize,
     smokes: usize,
 ) -> i64
-    ensures { λ r. ⌜ r ≡ numberOr (writeReply quadratic (shapeOf nx ny smokes) (now (field .entry)) (now (wind .entry)) (now (file .entry))) ⌝ }
-    ensures { λ _. ⌜ now (file .exit) ≡ writeFile quadratic (shapeOf nx ny smokes) (now (field .entry)) (now (wind .entry)) (now (file .entry)) ⌝ }
+    ensures { λ r. ⌜ WriteGives quadratic (shapeOf nx ny smokes) (now (field .entry)) (now (wind .entry)) (now (file .entry)) (numbered r) (now (file .exit)) ⌝ }
 {
     let shape = Shape {
         nx,

@@ -1,7 +1,7 @@
 -- One law for each operation on a tracer: an accepted one leaves a good part good, and the ledger's line agrees with it.
 use mathlib.Core.Path.{_≡_, refl, sym, ap, _∙_, subst}
 use mathlib.Core.Bool.{Bool}
-use mathlib.Core.List.{List, []}
+use mathlib.Core.List.{List}
 use mathlib.Core.Logic.{_≢_}
 use Prim.Native.Nat.{ℕ, _+_, _-_, _≤_, _<_}
 use native.Mathlib.Omega.{arith}
@@ -16,8 +16,8 @@ use Rattle.rules.specs.Answers.{accepted}
 use Rattle.rules.specs.Field.{Kind, elements, element, onGrid, elementLength, partLength, cell, remainder, mass, total, limit, weightSum}
 use Rattle.rules.specs.Limiter.{closingRemainder}
 use Rattle.rules.specs.Stages.{stages}
-use Rattle.rules.specs.Step.{Stepped, tracerStep, report}
-use Rattle.rules.specs.Calls.{Operation, load, emission, withdrawal, step, Lent, windAt, loaded, withElement, emitted, withdrawn, done, checks}
+use Rattle.rules.specs.Step.{tracerStep}
+use Rattle.rules.specs.Calls.{Operation, load, emission, withdrawal, step, Lent, windAt, loaded, withElement, emitted, withdrawn, Done, noReport, done, checks}
 use Rattle.rules.specs.Ledger.{only, entry}
 use Rattle.rules.proofs.AnswerLaws.{Passed}
 use Rattle.rules.proofs.LimiterLaws.{closed-length, closed-remainder, withdrawal-remainder, truncated-pos}
@@ -70,9 +70,9 @@ done-length κ g hx hy (withdrawal i j q) there p h c = length-withElement κ g 
 done-length κ g hx hy (step l) there p h c = length-after κ g hx hy (windAt (l .wind)) p (stages κ g (windAt (l .wind)) p)
 
 -- what an operation leaves of a part p, and the ledger's line for it
-pub record Kept (κ : Kind) (g : Shape) (op : Operation Lent) (p : List ℕ) (d : Stepped) : Type 0 where
+pub record Kept (κ : Kind) (g : Shape) (op : Operation Lent) (p : List ℕ) (d : Done) : Type 0 where
   pub good : Good κ g (d .part)
-  pub entries : (e : ℕ) → e < elements g → entry κ g op (accepted (d .report)) (λ e. pos (mass κ p e)) e ≡ pos (mass κ (d .part) e)
+  pub entries : (e : ℕ) → e < elements g → entry κ g op (accepted (d .reply)) (λ e. pos (mass κ p e)) e ≡ pos (mass κ (d .part) e)
 
 -- ---- one element replaced by numbers x that hold its mass and z, which may be negative
 module _ (κ : Kind) (g : Shape) (e : ℕ) (x p : List ℕ) (he : e < elements g) (width : length x ≡ elementLength κ) (h : Good κ g p) (small : getD x (κ .nodes) 0 < weightSum κ) (z : ℤ) (holds : pos (held κ x) ≡ pos (mass κ p e) +ℤ z) where
@@ -100,7 +100,7 @@ module _ (κ : Kind) (g : Shape) (e : ℕ) (x p : List ℕ) (he : e < elements g
   }
 
 -- ---- the operations
-load-law : (κ : Kind) (g : Shape) (hw : 0 < weightSum κ) (l p : List ℕ) → total κ g (loaded κ g l) ≤ limit → Kept κ g (load l) p (record { part = loaded κ g l; report = [] })
+load-law : (κ : Kind) (g : Shape) (hw : 0 < weightSum κ) (l p : List ℕ) → total κ g (loaded κ g l) ≤ limit → Kept κ g (load l) p (record { part = loaded κ g l; reply = noReport })
 unfolding entry
 load-law κ g hw l p b = record {
   good = record { size = length-loaded κ g l; bounded = b; small = λ e h. subst (λ x. x < weightSum κ) (sym (remainder-loaded κ g l e h)) hw };
@@ -108,7 +108,7 @@ load-law κ g hw l p b = record {
 }
 
 emission-law : (κ : Kind) (g : Shape) (hw : 0 < weightSum κ) (i j q : ℕ) (p : List ℕ) → Good κ g p → T (onGrid g i j) → total κ g p + q ≤ limit
-    → Kept κ g (emission i j q) p (record { part = withElement κ (element g i j) (emitted κ (element g i j) q p) p; report = [] })
+    → Kept κ g (emission i j q) p (record { part = withElement κ (element g i j) (emitted κ (element g i j) q p) p; reply = noReport })
 unfolding entry
 emission-law κ g hw i j q p h on b =
     let e = element g i j in
@@ -127,7 +127,7 @@ sub-le : (m n q : ℕ) → pos n ≡ pos m -ℤ pos q → n ≤ m
 sub-le m n q e = omega (arith, ap positive e, ap negative e, positive-pos n, negative-pos n, sub-parts-of (pos m) (pos q), positive-pos m, negative-pos m, positive-pos q, negative-pos q)
 
 withdrawal-law : (κ : Kind) (g : Shape) (i j q : ℕ) (p : List ℕ) → Good κ g p → T (onGrid g i j) → q ≤ mass κ p (element g i j)
-    → Kept κ g (withdrawal i j q) p (record { part = withElement κ (element g i j) (withdrawn κ (element g i j) q p) p; report = [] })
+    → Kept κ g (withdrawal i j q) p (record { part = withElement κ (element g i j) (withdrawn κ (element g i j) q p) p; reply = noReport })
 unfolding entry
 withdrawal-law κ g i j q p h on b =
     let e = element g i j in
@@ -142,8 +142,8 @@ withdrawal-law κ g i j q p h on b =
       entries = λ e′ l. ap (λ y. pos (mass κ p e′) +ℤ y) (only-neg (eqb e e′) (pos q)) ∙ entries-of κ g e x p he width h small (negℤ (pos q)) holds e′ l;
     }
 
-step-law : (κ : Kind) (g : Shape) (hw : 0 < weightSum κ) (hx : 0 < g .nx) (hy : 0 < g .ny) (l : Lent) (p : List ℕ) → Good κ g p → Kept κ g (step l) p (tracerStep κ g (windAt (l .wind)) p)
-unfolding entry tracerStep
+step-law : (κ : Kind) (g : Shape) (hw : 0 < weightSum κ) (hx : 0 < g .nx) (hy : 0 < g .ny) (l : Lent) (p : List ℕ) → Good κ g p → Kept κ g (step l) p (done κ g (step l) p)
+unfolding entry done tracerStep
 step-law κ g hw hx hy l p h =
     let w = windAt (l .wind) in
     record { good = good-after κ g hx hy w p (stages κ g w p) hw (h .bounded); entries = entries-after κ g hx hy w p (stages κ g w p) }

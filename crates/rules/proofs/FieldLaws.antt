@@ -6,7 +6,6 @@ use mathlib.Core.Logic.{_≢_}
 use Prim.Native.Nat.{ℕ, _+_, _*_, _≤_, _<_}
 use native.Mathlib.Omega.{arith}
 use lib.Dec.{T, leb, ltb, leb→le, le→leb, ltb→lt}
-use lib.IntN.{ℤ}
 use lib.ListN.{length}
 use Rattle.whole.specs.Sum.{all}
 use Rattle.whole.proofs.Cases.{true-of, both-yes}
@@ -14,8 +13,7 @@ use Rattle.whole.proofs.OverwriteLaws.{part-room, length-replaced, part-same, p
 use Rattle.rules.specs.declared.Shape.{Shape}
 use Rattle.rules.specs.Answers.{Answer, accepted, refused, Check, check, answer, after}
 use Rattle.rules.specs.Field.{Kind, admitted, elements, partLength, fieldLength, part, withPart, remainder, weightSum, total, limit, sound, Admitted}
-use Rattle.rules.specs.Step.{Stepped}
-use Rattle.rules.specs.Calls.{Operation, load, emission, withdrawal, step, Lent, lentEnough, soundIfThere, done, checks, call}
+use Rattle.rules.specs.Calls.{Operation, load, emission, withdrawal, step, Lent, lentEnough, soundIfThere, Reply, Done, done, checks, call}
 use Rattle.rules.proofs.AnswerLaws.{Passed, answer-ind}
 use Rattle.rules.proofs.PartLaws.{part-length}
 use Rattle.rules.proofs.CallLaws.{done-length}
@@ -45,7 +43,7 @@ module _ (κ : Kind) (g : Shape) (s : ℕ) (op : Operation Lent) (field : List �
   abbrev p : List ℕ
   p = part κ g s field
 
-  abbrev d : Stepped
+  abbrev d : Done
   d = done κ g op p
 
   -- the checks of the call, in rising number
@@ -82,10 +80,10 @@ module _ (κ : Kind) (g : Shape) (s : ℕ) (op : Operation Lent) (field : List �
       tracer = ltb→lt _ _ (there-of κ g op (ltb s (g .tracers)) p (c .1 .1))
 
   -- a call is refused and changes nothing, or is accepted and writes the part that the operation leaves
-  pub call-ind {ℓ} : (P : Answer (List ℤ) → List ℕ → Type ℓ) → ((n : ℕ) → P (refused n) field) → (Accepted → P (accepted (d .report)) (withPart κ g s (d .part) field))
+  pub call-ind {ℓ} : (P : Answer Reply → List ℕ → Type ℓ) → ((n : ℕ) → P (refused n) field) → (Accepted → P (accepted (d .reply)) (withPart κ g s (d .part) field))
       → P (call κ g s op field .reply) (call κ g s op field .field)
   unfolding call after
-  call-ind P no′ yes′ = answer-ind (λ a. P a (after a (withPart κ g s (d .part) field) field)) all-checks (d .report) no′ (λ c. yes′ (accepted-of c))
+  call-ind P no′ yes′ = answer-ind (λ a. P a (after a (withPart κ g s (d .part) field) field)) all-checks (d .reply) no′ (λ c. yes′ (accepted-of c))
 
   pub call-length : length (call κ g s op field .field) ≡ length field
   unfolding withPart
@@ -108,7 +106,7 @@ module _ (κ : Kind) (g : Shape) (s : ℕ) (op : Operation Lent) (f f′ : List 
 
   pub reply-same : call κ g s op f .reply ≡ call κ g s op f′ .reply
   unfolding call
-  reply-same = λ i. answer (check 2 (admitted g) ∷ check 4 (enough i && lentEnough κ g op) ∷ checks κ g op (ltb s (g .tracers)) (same i)) (done κ g op (same i) .report)
+  reply-same = λ i. answer (check 2 (admitted g) ∷ check 4 (enough i && lentEnough κ g op) ∷ checks κ g op (ltb s (g .tracers)) (same i)) (done κ g op (same i) .reply)
 
   pub part-after-same : part κ g s (call κ g s op f .field) ≡ part κ g s (call κ g s op f′ .field)
   part-after-same = call-part κ g s op f ∙ (λ i. after (reply-same i) (done κ g op (same i) .part) (same i)) ∙ sym (call-part κ g s op f′)

@@ -1,7 +1,6 @@
 -- The ledger's own sums: going through the faces adds up what each face moves, keeps the sum over all elements, and reads
 -- the numbers before at one element only.
 use mathlib.Core.Path.{_≡_, refl, sym, ap, _∙_}
-use mathlib.Core.List.{List}
 use Prim.Native.Nat.{ℕ, zero, suc, _≤_, _<_}
 use native.Mathlib.Omega.{arith}
 use lib.Dec.{eqb}
@@ -14,7 +13,7 @@ use Rattle.rules.specs.declared.Shape.{Shape}
 use Rattle.rules.specs.Answers.{Answer, accepted, refused}
 use Rattle.rules.specs.Field.{Kind, elements, element, faces}
 use Rattle.rules.specs.Grid.{behind, ahead}
-use Rattle.rules.specs.Calls.{Operation, load, emission, withdrawal, step}
+use Rattle.rules.specs.Calls.{Operation, load, emission, withdrawal, step, Reply}
 use Rattle.rules.specs.Ledger.{only, carried, entry}
 use Rattle.rules.proofs.GridLaws.{moved, only-yes, only-no, only-neg, behind-lt, ahead-lt}
 
@@ -47,12 +46,12 @@ carried-keeps g hx hy x held (suc f) h =
     ∙ carried-keeps g hx hy x held f (omega arith)
 
 -- a line reads the ledger at its own element only
-pub entry-cong : {A : Type 0} (κ : Kind) (g : Shape) (op : Operation A) (a : Answer (List ℤ)) (x y : ℕ → ℤ) (e : ℕ) → x e ≡ y e → entry κ g op a x e ≡ entry κ g op a y e
+pub entry-cong : {A : Type 0} (κ : Kind) (g : Shape) (op : Operation A) (a : Answer Reply) (x y : ℕ → ℤ) (e : ℕ) → x e ≡ y e → entry κ g op a x e ≡ entry κ g op a y e
 unfolding entry
 entry-cong κ g op (refused n) x y e h = h
 entry-cong κ g (load l) (accepted r) x y e h = refl
 entry-cong κ g (emission i j q) (accepted r) x y e h = ap (λ z. z +ℤ only (eqb (element g i j) e) (pos q)) h
 entry-cong κ g (withdrawal i j q) (accepted r) x y e h = ap (λ z. z -ℤ only (eqb (element g i j) e) (pos q)) h
 entry-cong κ g (step l) (accepted r) x y e h =
-    let f : ℕ → ℤ = λ i. getD r i (pos 0) in
+    let f : ℕ → ℤ = λ i. getD (r .report) i (pos 0) in
     carried-sum g f x (faces g) e ∙ ap (λ z. z +ℤ sumℤ (faces g) (moved g f e)) h ∙ sym (carried-sum g f y (faces g) e)

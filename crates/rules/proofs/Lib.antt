@@ -10,6 +10,7 @@ pub mod AnswerLaws
 pub mod StepLaws
 pub mod CallLaws
 pub mod FieldLaws
+pub mod GivesLaws
 pub mod StageBounds
 pub mod QuadraticLaws
 pub mod MarkedCases

@@ -10,11 +10,13 @@ use Rattle.whole.specs.Sum.{all}
 use Rattle.whole.specs.Table.{table, blocks, overwrite}
 use Rattle.rules.specs.declared.Shape.{Shape}
 use Rattle.rules.specs.declared.Face.{Face}
-use Rattle.rules.specs.Answers.{Answer, accepted, refused, Check, check, answer, after}
+use Rattle.rules.specs.declared.Outcome.{Outcome}
+use Rattle.rules.specs.declared.Reading.{Reading}
+use Rattle.rules.specs.Answers.{Answer, accepted, refused, Check, check, answer, after, plain, outcome, reading}
 use Rattle.rules.specs.Field.{Kind, admitted, elements, faces, workNeeded, element, onGrid, elementLength, fieldLength, part, withPart, cell, mass, total, limit, sound}
 use Rattle.rules.specs.Limiter.{closed, closedUnlevelled}
 use Rattle.rules.specs.Grid.{faceIndex}
-use Rattle.rules.specs.Step.{Stepped, tracerStep}
+use Rattle.rules.specs.Step.{tracerStep}
 
 -- document 01, "Field": "−1024 to 1024"
 abbrev pub windInRange : ℤ → Bool
@@ -57,9 +59,21 @@ lengthsLent wind report work = record { wind = wind; reportLength = report; work
 abbrev pub lent : List ℤ → List ℤ → List ℤ → Lent
 lent wind report work = lengthsLent wind (length report) (length work)
 
--- what a call on a tracer answers, with the report where it is a step, and the field after it
+-- what an accepted call answers beside that: "An accepted step's answer there includes the report as that step left it"; others have none
+pub record Reply : Type 0 where
+  pub report : List ℤ
+
+abbrev pub noReport : Reply
+noReport = record { report = [] }
+
+-- what an accepted operation leaves: the tracer's part, and the call's reply
+pub record Done : Type 0 where
+  pub part : List ℕ
+  pub reply : Reply
+
+-- what a call on a tracer answers, and the field after it
 pub record Called : Type 0 where
-  pub reply : Answer (List ℤ)
+  pub reply : Answer Reply
   pub field : List ℕ
 
 module _ (κ : Kind) where
@@ -93,13 +107,15 @@ module _ (κ : Kind) (g : Shape) where
   unfolding loadedElement blocks
   loaded numbers = blocks (elements g) (loadedElement κ numbers)
 
-  -- a tracer's part, and the report, after an accepted operation
-  unfoldable pub done : Operation Lent → List ℕ → Stepped
+  -- an accepted operation on a tracer's part
+  unfoldable pub done : Operation Lent → List ℕ → Done
   unfolding loaded withElement emitted withdrawn tracerStep
-  done (load numbers) p = record { part = loaded numbers; report = [] }
-  done (emission i j q) p = record { part = withElement κ (element g i j) (emitted κ (element g i j) q p) p; report = [] }
-  done (withdrawal i j q) p = record { part = withElement κ (element g i j) (withdrawn κ (element g i j) q p) p; report = [] }
-  done (step l) p = tracerStep κ g (windAt (l .wind)) p
+  done (load numbers) p = record { part = loaded numbers; reply = noReport }
+  done (emission i j q) p = record { part = withElement κ (element g i j) (emitted κ (element g i j) q p) p; reply = noReport }
+  done (withdrawal i j q) p = record { part = withElement κ (element g i j) (withdrawn κ (element g i j) q p) p; reply = noReport }
+  done (step l) p =
+      let d = tracerStep κ g (windAt (l .wind)) p in
+      record { part = d .part; reply = record { report = d .report } }
 
   -- 4, "a lent slice is shorter than needed", of what an operation is lent beside the field
   unfoldable pub lentEnough : Operation Lent → Bool
@@ -129,12 +145,8 @@ module _ (κ : Kind) (g : Shape) where
   call s op field =
       let p = part κ g s field in
       let d = done op p in
-      let a = answer (check 2 (admitted g) ∷ check 4 (leb (fieldLength κ g) (length field) && lentEnough op) ∷ checks op (ltb s (g .tracers)) p) (d .report) in
+      let a = answer (check 2 (admitted g) ∷ check 4 (leb (fieldLength κ g) (length field) && lentEnough op) ∷ checks op (ltb s (g .tracers)) p) (d .reply) in
       record { reply = a; field = after a (withPart κ g s (d .part) field) field }
-
-  -- a step's call on its buffers: field, wind, report and work
-  abbrev pub stepCall : ℕ → List ℕ → List ℤ → List ℤ → List ℤ → Called
-  stepCall s field wind report work = call s (step (lent wind report work)) field
 
   -- "Readings: an element's M; a smoke's total."
   unfoldable pub massReading : ℕ → ℕ → ℕ → List ℕ → Answer ℕ
@@ -171,18 +183,6 @@ module _ (κ : Kind) (g : Shape) where
   unfolding freshReply zeroWind after
   freshWind field wind = after (freshReply field wind) (zeroWind g wind) wind
 
--- the report buffer after a call: the report written over its front, "Surplus is left alone"
-unfoldable pub reportAfter : Answer (List ℤ) → List ℤ → List ℤ
-unfolding overwrite
-reportAfter (accepted r) old = overwrite 0 r old
-reportAfter (refused n) old = old
-
--- work after a step on a shape g: "An accepted step leaves work free: any content" in the numbers that are needed, and "Surplus is left
--- alone"; a refused one leaves it as it was
-abbrev pub WorkAfter : Shape → Answer (List ℤ) → List ℤ → List ℤ → Type 0
-WorkAfter g (accepted r) old new = (length new ≡ length old) × (drop (workNeeded g) new ≡ drop (workNeeded g) old)
-WorkAfter g (refused n) old new = new ≡ old
-
 module _ (g : Shape) where
   -- "Wind: one face (east or north, i, j) gets a new C."
   unfoldable pub windReply : Face → List ℤ → Answer (Unit {0})
@@ -194,3 +194,41 @@ module _ (g : Shape) where
   unfoldable pub windAfter : Face → List ℤ → List ℤ
   unfolding windReply after
   windAfter f wind = after (windReply f wind) (set wind (faceIndex g (f .way) (f .i) (f .j)) (f .wind)) wind
+
+-- ---- what each call gives: what is told of its answer, and every buffer that it was lent for writing, at exit, from what all its buffers
+-- held at entry. The contracts of the code cite these, and so do the theorems over rows of calls.
+-- What is told: the answer itself (`answers`, `reads`), or, for C, its number.
+abbrev pub answers : Outcome → Answer (Unit {0}) → Type 0
+answers r a = outcome r ≡ a
+
+abbrev pub reads : Reading → Answer ℕ → Type 0
+reads r a = reading r ≡ a
+
+-- the report buffer after a step: the report written over its front, "Surplus is left alone"
+unfoldable pub reportAfter : Answer Reply → List ℤ → List ℤ
+unfolding overwrite
+reportAfter (accepted r) old = overwrite 0 (r .report) old
+reportAfter (refused n) old = old
+
+-- work after a step on a shape g: "An accepted step leaves work free: any content" in the numbers that are needed, and "Surplus is left
+-- alone"; a refused one leaves it as it was
+abbrev pub WorkAfter : Shape → Answer Reply → List ℤ → List ℤ → Type 0
+WorkAfter g (accepted r) old new = (length new ≡ length old) × (drop (workNeeded g) new ≡ drop (workNeeded g) old)
+WorkAfter g (refused n) old new = new ≡ old
+
+module _ (κ : Kind) (g : Shape) where
+  -- a call on tracer s
+  abbrev pub CallGives : ℕ → Operation Lent → List ℕ → (Answer (Unit {0}) → Type 0) → List ℕ → Type 0
+  CallGives s op field told field′ = told (plain (call κ g s op field .reply)) × (field′ ≡ call κ g s op field .field)
+
+  -- a step of tracer s, which is lent report and work, too
+  abbrev pub StepGives : ℕ → List ℕ → List ℤ → List ℤ → List ℤ → (Answer (Unit {0}) → Type 0) → List ℕ → List ℤ → List ℤ → Type 0
+  StepGives s field wind report work told field′ report′ work′ =
+      let a = call κ g s (step (lent wind report work)) field .reply in
+      told (plain a) × ((field′ ≡ call κ g s (step (lent wind report work)) field .field) × ((report′ ≡ reportAfter a report) × WorkAfter g a work work′))
+
+  abbrev pub FreshGives : List ℕ → List ℤ → (Answer (Unit {0}) → Type 0) → List ℕ → List ℤ → Type 0
+  FreshGives field wind told field′ wind′ = told (freshReply κ g field wind) × ((field′ ≡ freshField κ g field wind) × (wind′ ≡ freshWind κ g field wind))
+
+abbrev pub WindGives : Shape → Face → List ℤ → (Answer (Unit {0}) → Type 0) → List ℤ → Type 0
+WindGives g f wind told wind′ = told (windReply g f wind) × (wind′ ≡ windAfter g f wind)

@@ -1,4 +1,5 @@
 -- Document 01, "Field file": the bytes of a field, what reading and writing them answer, and what they leave in the buffers.
+use mathlib.Core.Path.{_≡_}
 use mathlib.Core.Bool.{Bool, _&&_, cond}
 use mathlib.Core.List.{List, [], _∷_, _++_}
 use Prim.Native.Nat.{ℕ, _+_, _*_, _-_, _/_, _%_}
@@ -8,7 +9,8 @@ use lib.ListN.{length, getD}
 use Rattle.whole.specs.Sum.{all}
 use Rattle.whole.specs.Table.{table, blocks, overwrite}
 use Rattle.rules.specs.declared.Shape.{Shape}
-use Rattle.rules.specs.Answers.{Answer, check, answer, after}
+use Rattle.rules.specs.declared.FileRead.{FileRead}
+use Rattle.rules.specs.Answers.{Answer, check, answer, after, fileAnswer}
 use Rattle.rules.specs.Field.{Kind, admitted, faces, partLength, fieldLength, part, sound}
 use Rattle.rules.specs.Calls.{windAt, windSound}
 
@@ -127,3 +129,14 @@ module _ (κ : Kind) where
   unfoldable pub writeFile : Shape → List ℕ → List ℤ → List ℕ → List ℕ
   unfolding writeReply after overwrite fileOf
   writeFile g field wind file = after (writeReply g field wind file) (overwrite 0 (fileOf κ g field wind) file) file
+
+-- ---- what reading and writing give, as the calls on a field do: what is told of the answer, and every buffer that was lent for writing
+abbrev pub finds : FileRead → Answer Shape → Type 0
+finds r a = fileAnswer r ≡ a
+
+module _ (κ : Kind) where
+  abbrev pub ReadGives : List ℕ → List ℕ → List ℤ → (Answer Shape → Type 0) → List ℕ → List ℤ → Type 0
+  ReadGives file field wind told field′ wind′ = told (readReply κ file field wind) × ((field′ ≡ readField κ file field wind) × (wind′ ≡ readWind κ file field wind))
+
+  abbrev pub WriteGives : Shape → List ℕ → List ℤ → List ℕ → (Answer ℕ → Type 0) → List ℕ → Type 0
+  WriteGives g field wind file told file′ = told (writeReply κ g field wind file) × (file′ ≡ writeFile κ g field wind file)

@@ -113,7 +113,7 @@ module _ (g : Shape) (wind : List ℤ) where
   unfolding call totalReading tracerLines
   stepped s field =
       let c = call quadratic g s (step (lengthsLent wind reportLent workLent)) field in
-      next (c .reply) (λ report. next (totalReading quadratic g s (c .field)) (λ total. accepted (record { text = tracerLines g s report total; field = c .field })))
+      next (c .reply) (λ r. next (totalReading quadratic g s (c .field)) (λ total. accepted (record { text = tracerLines g s (r .report) total; field = c .field })))
 
   -- the first n tracers, after the line of the grid
   unfoldable pub upTo : ℕ → List ℕ → Answer Printed

@@ -13,12 +13,13 @@ use Rattle.whole.proofs.Cases.{both-yes}
 use Rattle.whole.proofs.SumLaws.{all-at}
 use Rattle.rules.specs.declared.Shape.{Shape}
 use Rattle.rules.specs.Answers.{Answer, accepted, refused, Check, check, answer, plain}
-use Rattle.rules.specs.Field.{quadratic, admitted, faces, workNeeded, fieldLength, partLength, part, withPart, total, Admitted}
+use Rattle.rules.specs.Field.{quadratic, admitted, faces, workNeeded, fieldLength, partLength, part, withPart, total, Admitted, elementsLength}
 use Rattle.rules.specs.Step.{tracerStep}
-use Rattle.rules.specs.Calls.{Operation, step, Lent, lengthsLent, windInRange, windAt, windSound, lentEnough, soundIfThere, checks, done, call, totalReading, reportAfter, WorkAfter}
+use Rattle.rules.specs.Calls.{Operation, step, Lent, lengthsLent, windInRange, windAt, windSound, lentEnough, soundIfThere, checks, done, call, totalReading, reportAfter, WorkAfter, Reply}
 use Rattle.rules.proofs.AnswerLaws.{Passed, answer-ind, prefix-refused, prefix-accepted}
 use Rattle.rules.proofs.FieldLaws.{total-small, sound-there}
 use Rattle.rules.proofs.ShapeLaws.{ranges}
+use Rattle.rules.proofs.PartLaws.{part-is-elements}
 use Rattle.step_upwind.specs.Upwind.{WindsInRange}
 
 -- ---- the call's answer, by its tests
@@ -37,8 +38,8 @@ module _ (g : Shape) (s : ℕ) (f : List ℕ) (wind : List ℤ) (rl wl : ℕ) wh
   abbrev last-two : List Check
   last-two = check 6 (soundIfThere quadratic g (ltb s (g .tracers)) p) ∷ check 7 (ltb s (g .tracers)) ∷ []
 
-  abbrev r : List ℤ
-  r = tracerStep quadratic g (windAt wind) p .report
+  abbrev r : Reply
+  r = record { report = tracerStep quadratic g (windAt wind) p .report }
 
   pub step-2 : admitted g ≡ false → call quadratic g s op f .reply ≡ refused 2
   unfolding call answer
@@ -122,23 +123,23 @@ plain-refused (accepted x) n e = let w : _≡_ {A = ℕ} 0 1 = cc in absurd (ome
 plain-refused (refused m) n e = cc
 
 -- ---- what a call leaves of report and work
-pub report-refused : (a : Answer (List ℤ)) (n : ℕ) (old : List ℤ) → a ≡ refused n → old ≡ reportAfter a old
+pub report-refused : (a : Answer Reply) (n : ℕ) (old : List ℤ) → a ≡ refused n → old ≡ reportAfter a old
 unfolding reportAfter
 report-refused a n old e = sym (ap (λ x. reportAfter x old) e)
 
-pub report-accepted : (a : Answer (List ℤ)) (r old : List ℤ) → a ≡ accepted r → overwrite 0 r old ≡ reportAfter a old
+pub report-accepted : (a : Answer Reply) (r : Reply) (old : List ℤ) → a ≡ accepted r → overwrite 0 (r .report) old ≡ reportAfter a old
 unfolding reportAfter
 report-accepted a r old e = sym (ap (λ x. reportAfter x old) e)
 
-pub work-refused : (g : Shape) (a : Answer (List ℤ)) (n : ℕ) (old : List ℤ) → a ≡ refused n → WorkAfter g a old old
+pub work-refused : (g : Shape) (a : Answer Reply) (n : ℕ) (old : List ℤ) → a ≡ refused n → WorkAfter g a old old
 work-refused g a n old e = subst (λ x. WorkAfter g x old old) (sym e) refl
 
 -- the numbers that are needed were lent and came back as x; the rest is the old surplus
-pub work-accepted : (g : Shape) (a : Answer (List ℤ)) (r old x new : List ℤ) → a ≡ accepted r → new ≡ x ++ drop (workNeeded g) old → length x ≡ workNeeded g → length new ≡ length old → WorkAfter g a old new
+pub work-accepted : (g : Shape) (a : Answer Reply) (r : Reply) (old x new : List ℤ) → a ≡ accepted r → new ≡ x ++ drop (workNeeded g) old → length x ≡ workNeeded g → length new ≡ length old → WorkAfter g a old new
 work-accepted g a r old x new e q l h = subst (λ y. WorkAfter g y old new) (sym e) (h, ap (drop (workNeeded g)) q ∙ drop-at x (drop (workNeeded g) old) (workNeeded g) l)
 
 -- the part that was lent and written, back in its place
-pub part-back : (g : Shape) (s at k : ℕ) (x new f : List ℕ) → at ≡ s * partLength quadratic g → k ≡ partLength quadratic g → x ≡ new → length new ≡ partLength quadratic g
+pub part-back : (g : Shape) (s at k : ℕ) (x new f : List ℕ) → at ≡ s * partLength quadratic g → k ≡ elementsLength quadratic g → x ≡ new → length new ≡ partLength quadratic g
     → take at f ++ (x ++ drop k (drop at f)) ≡ withPart quadratic g s new f
 unfolding withPart overwrite
-part-back g s at k x new f ea ek ex size = rw (ea, ek ∙ sym size, ex)
+part-back g s at k x new f ea ek ex size = rw (ea, ek ∙ sym (part-is-elements quadratic g) ∙ sym size, ex)

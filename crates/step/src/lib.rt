@@ -3,15 +3,23 @@
 ghost use mathlib.Core.Path.{_≡_};
 ghost use mathlib.Core.Bool.{_&&_};
 ghost use lib.Dec.{leb};
-ghost use Rattle.rules.specs.Answers.{outcome, plain};
+ghost use Rattle.rules.specs.Answers.{plain};
 ghost use Rattle.rules.specs.Field.{quadratic, faces, workNeeded, fieldLength, Admitted};
-ghost use Rattle.rules.specs.Calls.{step, lengthsLent, call, stepCall, reportAfter, WorkAfter};
+ghost use Rattle.rules.specs.Calls.{step, lengthsLent, call, answers, StepGives};
 use rules::Outcome;
 use rules::Reading;
 use rules::Refusal;
 use rules::Shape;
 
 mod tracer; // tracer.rt: the step on a tracer's part
+
+// The numbers of work that a step needs.
+fn work_needed(shape: Shape) -> usize
+    requires { ⌜ Admitted shape ⌝ }
+    ensures { λ r. ⌜ r ≡ workNeeded shape ⌝ }
+{
+    64 * field_layout::elements(shape)
+}
 
 // Whether buffers of these lengths are long enough.
 fn lent_enough(field: usize, wind: usize, report: usize, work: usize, shape: Shape) -> bool
@@ -28,7 +36,7 @@ fn lent_enough(field: usize, wind: usize, report: usize, work: usize, shape: Sha
     if report < faces {
         return false;
     }
-    64 * field_layout::elements(shape) <= work
+    work_needed(shape) <= work
 }
 
 // The checks of a step, for a report and a work of these lengths: 2, 4, 5, and then 6 and 7 as a reading of the total meets them.
@@ -40,7 +48,7 @@ fn check(
     shape: Shape,
     tracer: usize,
 ) -> Outcome
-    ensures { λ r. ⌜ outcome r ≡ plain (call quadratic shape tracer (step (lengthsLent (now (wind .entry)) report work)) (now (field .entry)) .reply) ⌝ }
+    ensures { λ r. ⌜ answers r (plain (call quadratic shape tracer (step (lengthsLent (now (wind .entry)) report work)) (now (field .entry)) .reply)) ⌝ }
 {
     if !field_layout::admitted(shape) {
         return Outcome::Refused(Refusal::BadShape);
@@ -67,18 +75,15 @@ pub fn step(
     shape: Shape,
     tracer: usize,
 ) -> Outcome
-    ensures { λ r. ⌜ outcome r ≡ plain (stepCall quadratic shape tracer (now (field .entry)) (now (wind .entry)) (now (report .entry)) (now (work .entry)) .reply) ⌝ }
-    ensures { λ _. ⌜ now (field .exit) ≡ stepCall quadratic shape tracer (now (field .entry)) (now (wind .entry)) (now (report .entry)) (now (work .entry)) .field ⌝ }
-    ensures { λ _. ⌜ now (report .exit) ≡ reportAfter (stepCall quadratic shape tracer (now (field .entry)) (now (wind .entry)) (now (report .entry)) (now (work .entry)) .reply) (now (report .entry)) ⌝ }
-    ensures { λ _. ⌜ WorkAfter shape (stepCall quadratic shape tracer (now (field .entry)) (now (wind .entry)) (now (report .entry)) (now (work .entry)) .reply) (now (work .entry)) (now (work .exit)) ⌝ }
+    ensures { λ r. ⌜ StepGives quadratic shape tracer (now (field .entry)) (now (wind .entry)) (now (report .entry)) (now (work .entry)) (answers r) (now (field .exit)) (now (report .exit)) (now (work .exit)) ⌝ }
 {
     let checked = check(field, wind, report.len(), work.len(), shape, tracer);
     match checked {
         Outcome::Refused(r) => Outcome::Refused(r),
         Outcome::Accepted => {
             let start = field_layout::tracer_start(shape, tracer);
-            let end = start + field_layout::part_length(shape);
-            let needed = 64 * field_layout::elements(shape);
+            let end = start + field_layout::elements_length(shape);
+            let needed = work_needed(shape);
             tracer::step(
                 &mut field[start..end],
                 wind,

@@ -5,7 +5,7 @@ ghost use Prim.Native.Nat.{_+_, _*_, _≤_};
 ghost use lib.ListN.{length};
 ghost use Rattle.whole.specs.Parts.{positive};
 ghost use Rattle.whole.specs.Table.{blocks, overwrite, at};
-ghost use Rattle.rules.specs.Field.{quadratic, elements, faces, total, Admitted};
+ghost use Rattle.rules.specs.Field.{quadratic, elements, faces, total, Admitted, limit};
 ghost use Rattle.rules.specs.Correction.{target};
 ghost use Rattle.rules.specs.Step.{tracerStep};
 ghost use Rattle.rules.specs.Calls.{windAt};

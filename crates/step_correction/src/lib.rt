@@ -11,7 +11,7 @@ ghost use Rattle.whole.specs.Table.{at};
 ghost use Rattle.whole.specs.Bound.{Within, Are, AllWithin};
 ghost use Rattle.whole.specs.Parts.{positive, negative};
 ghost use Rattle.whole.specs.Written.{Written};
-ghost use Rattle.rules.specs.Field.{quadratic, elements, faces, mass, Admitted};
+ghost use Rattle.rules.specs.Field.{quadratic, elements, faces, mass, Admitted, limit};
 ghost use Rattle.rules.specs.Correction.{cut};
 ghost use Rattle.step_grid.specs.Place.{Placed};
 ghost use Rattle.step_correction.specs.Amounts.{NotNegative, WithinLimit, massesAt, outflowsAt, localOutflow, lentFluxes, limitedFace, limitedEast, limitedNorth, Amounts};

@@ -11,7 +11,8 @@ use Rattle.rules.specs.Field.{quadratic, admitted, elements, fieldLength, total
 use Rattle.rules.specs.Calls.{loaded}
 use Rattle.rules.specs.Calls.{loadedElement}
 use Rattle.rules.proofs.ShapeLaws.{admitted-is, elements-le}
-use Rattle.field_layout.proofs.PlaceLaws.{part-is, field-le, field-is, tracer-room}
+use Rattle.rules.proofs.PartLaws.{part-is-elements}
+use Rattle.field_layout.proofs.PlaceLaws.{field-le, field-is, tracer-room, elements-are}
 use Rattle.whole.proofs.OverwriteLaws.{part-size}
 use Rattle.field.proofs.WindFreshLoad.{load-total, load-back, load-2, load-4-field, load-4-numbers, load-7, load-9, load-done}
 use Rattle.field.proofs.load.Statement.{statement}
@@ -70,12 +71,12 @@ returns-5 c = load-9 _ _ _ _ (shape (c .before .before .before .before .before .
 tracer-start-requires : tie.Need-tracer-start-requires
 tracer-start-requires c κs = (admitted-is _ (shape (c .before .before .before .before .before .before .before .before)), c .before .before .if4 .left)
 
-part-length-requires : tie.Need-part-length-requires
-part-length-requires c κs = admitted-is _ (shape (c .before .before .before .before .before .before .before .before .before))
+elements-length-requires : tie.Need-elements-length-requires
+elements-length-requires c κs = admitted-is _ (shape (c .before .before .before .before .before .before .before .before .before))
 
 -- the part ends within the field
-end : (c : tie.After-part-length) → c .before .tracer-start .result + c .part-length .result ≤ fieldLength quadratic (c .before .before .before .before .before .before .before .before .before .before .before .before .before .before .args .shape)
-end c = let a = c .before .before .before .before .before .before .before .before .before .before .before .before .before .before .args in omega (arith, c .part-length .ensures, c .before .tracer-start .ensures, tracer-room (a .shape) (a .tracer) (c .before .before .before .before .if4 .left))
+end : (c : tie.After-elements-length) → c .before .tracer-start .result + c .elements-length .result ≤ fieldLength quadratic (c .before .before .before .before .before .before .before .before .before .before .before .before .before .before .args .shape)
+end c = let a = c .before .before .before .before .before .before .before .before .before .before .before .before .before .before .args in omega (arith, c .elements-length .ensures, part-is-elements quadratic (a .shape), c .before .tracer-start .ensures, tracer-room (a .shape) (a .tracer) (c .before .before .before .before .if4 .left))
 
 add-end : tie.Need-add-end
 add-end c = let g = c .before .before .before .before .before .before .before .before .before .before .before .before .before .before .args .shape in omega (arith, end c, field-is g, field-le g (admitted-is g (shape (c .before .before .before .before .before .before .before .before .before .before))))
@@ -90,20 +91,20 @@ lay-requires : tie.Need-lay-requires
 lay-requires c κs =
     let a = c .before .before .before .before .before .before .before .before .before .before .before .before .before .before .before .args in
     let at = c .before .before .tracer-start .result in
-    let n = c .before .part-length .result in
-    let size : n ≡ c .before .before .before .before .before .before .before .before .elements .result * 10 = omega (arith, c .before .part-length .ensures, part-is (a .shape), c .before .before .before .before .before .before .before .before .elements .ensures) in
+    let n = c .before .elements-length .result in
+    let size : n ≡ c .before .before .before .before .before .before .before .before .elements .result * 10 = omega (arith, c .before .elements-length .ensures, elements-are (a .shape), c .before .before .before .before .before .before .before .before .elements .ensures) in
     (part-size n at (at + n - at) (a .field .now) (add-sub-cancel-left at n) (omega (arith, end (c .before), room (c .before .before .before .before .before .before .before .before .before))) ∙ size, (small (c .before .before .before .before .before .before .before .before), omega (arith, c .before .before .before .before .before .before .before .if3 .left)))
 
 returns-6 : tie.Need-returns-6
 returns-6 c =
     let a = c .before .before .before .before .before .before .before .before .before .before .before .before .before .before .before .before .before .before .args in
-    let n = c .before .before .before .before .part-length .result in
+    let n = c .before .before .before .before .elements-length .result in
     let at = c .before .before .before .before .before .tracer-start .result in
     let d = load-done (a .shape) (a .tracer) (a .numbers .now) (a .field .now) (shape (c .before .before .before .before .before .before .before .before .before .before .before .before .before .before)) (room (c .before .before .before .before .before .before .before .before .before .before .before .before)) (enough (c .before .before .before .before .before .before .before .before .before .before)) (c .before .before .before .before .before .before .before .before .if4 .left) (omega (arith, summed (c .before .before .before .before .before .before .before), c .before .before .before .before .before .before .if5 .left)) in (
       d .0,
-      load-back (a .shape) (a .tracer) (a .numbers .now) (a .field .now) at (at + n - at) (c .before .before .lay .last .0) (c .before .before .before .before .before .tracer-start .ensures) (add-sub-cancel-left at n ∙ c .before .before .before .before .part-length .ensures)
+      load-back (a .shape) (a .tracer) (a .numbers .now) (a .field .now) at (at + n - at) (c .before .before .lay .last .0) (c .before .before .before .before .before .tracer-start .ensures) (add-sub-cancel-left at n ∙ c .before .before .before .before .elements-length .ensures)
           (c .before .before .lay .ensures ∙ ap (λ m. blocks m (loadedElement quadratic (a .numbers .now))) (c .before .before .before .before .before .before .before .before .before .before .before .elements .ensures)) ∙ d .1,
     )
 
 pub load-spec : {M : Type 1} → statement M
-load-spec = tie.close (tie.spec admitted-requires returns field-length-requires returns-2 elements-requires mul-if3 returns-3 returns-4 loaded-total-requires returns-5 tracer-start-requires part-length-requires add-end mul-lay (λ c. search needs) (λ c. search needs) part-lay-end lay-requires (λ c. search needs) returns-6)
+load-spec = tie.close (tie.spec admitted-requires returns field-length-requires returns-2 elements-requires mul-if3 returns-3 returns-4 loaded-total-requires returns-5 tracer-start-requires elements-length-requires add-end mul-lay (λ c. search needs) (λ c. search needs) part-lay-end lay-requires (λ c. search needs) returns-6)

@@ -16,7 +16,7 @@ shown c =
 write-parts-requires : tie.Need-write-parts-requires
 write-parts-requires c κs =
     let w = shown (c .before) in
-    ((ranges (c .before .before .before .before .before .before .before .before .args .shape) (w .ranges)), (w .out-room, (w .field-room, w .wind-room)))
+    (ranges (c .before .before .before .before .before .before .before .before .args .shape) (w .ranges), (w .out-room, (w .field-room, w .wind-room)))
 
 returns : tie.Need-returns
 returns c =

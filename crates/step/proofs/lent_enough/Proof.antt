@@ -1,8 +1,6 @@
 use mathlib.Core.Path.{refl}
 use borrow.Author.Tests.{lt-leb, le-leb}
-use native.Mathlib.Omega.{arith}
 use Rattle.step.proofs.lent_enough.Statement.{statement}
-use Rattle.rules.proofs.ShapeLaws.{elements-le}
 use Rattle.step.proofs.lent_enough.Tie as tie
 
 field-length-requires : tie.Need-field-length-requires
@@ -23,18 +21,15 @@ returns-3 c =
     let e = d .before .before in
     rw (le-leb _ _ (rw (e .before .field-length .ensures) at (e .if1 .left)), le-leb _ _ (rw (d .before .faces .ensures) at (d .if2 .left)), lt-leb _ _ (rw (d .before .faces .ensures) at (c .if3 .taken)))
 
-elements-requires : tie.Need-elements-requires
-elements-requires c κs = c .before .before .before .before .before .pre
-
-mul-result : tie.Need-mul-result
-mul-result c = let b = c .before .before .before .before .before .before in record { fits = omega (arith, c .elements .ensures, elements-le (b .args .shape) (b .pre)) }
+work-needed-requires : tie.Need-work-needed-requires
+work-needed-requires c κs = c .before .before .before .before .before .pre
 
 returns-4 : tie.Need-returns-4
 returns-4 c =
     let h = c .before in
     let d = h .before in
     let e = d .before .before in
-    rw (le-leb _ _ (rw (e .before .field-length .ensures) at (e .if1 .left)), le-leb _ _ (rw (d .before .faces .ensures) at (d .if2 .left)), le-leb _ _ (rw (d .before .faces .ensures) at (h .if3 .left)), c .elements .ensures) refl
+    rw (le-leb _ _ (rw (e .before .field-length .ensures) at (e .if1 .left)), le-leb _ _ (rw (d .before .faces .ensures) at (d .if2 .left)), le-leb _ _ (rw (d .before .faces .ensures) at (h .if3 .left)), c .work-needed .ensures) refl
 
 pub lent-enough-spec : {M : Type 1} → statement M
-lent-enough-spec = tie.close (tie.spec field-length-requires returns faces-requires returns-2 returns-3 elements-requires mul-result returns-4)
+lent-enough-spec = tie.close (tie.spec field-length-requires returns faces-requires returns-2 returns-3 work-needed-requires returns-4)

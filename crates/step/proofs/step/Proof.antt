@@ -1,6 +1,6 @@
 use mathlib.Core.Path.{_≡_, sym, ap, _∙_}
 use mathlib.Core.List.{_++_}
-use Prim.Native.Nat.{_≤_, _-_, _+_, _*_}
+use Prim.Native.Nat.{_≤_, _-_, _+_}
 use borrow.Author.Needs.{needs}
 use native.Mathlib.Omega.{arith}
 use native.Mathlib.Nat.{add-sub-cancel-left}
@@ -11,74 +11,55 @@ use Rattle.rules.specs.Field.{quadratic, part, total}
 use Rattle.rules.specs.Step.{tracerStep}
 use Rattle.rules.specs.Calls.{step, lent, windAt, done, call}
 use Rattle.whole.specs.Table.{overwrite}
-use Rattle.rules.proofs.PartLaws.{part-length}
+use Rattle.rules.proofs.PartLaws.{part-length, part-is-elements}
 use Rattle.rules.proofs.StepLaws.{length-after}
 use Rattle.rules.specs.Stages.{stages}
-use Rattle.rules.proofs.ShapeLaws.{elements-le}
 use Rattle.field.proofs.CheckLaws.{call-refused, call-accepted}
 use Rattle.field_layout.proofs.PlaceLaws.{part-is, field-is, field-le, tracer-room}
 use Rattle.step.proofs.CheckLaws.{Stepping, stepping, plain-refused, report-refused, report-accepted, work-refused, work-accepted, part-back}
 use Rattle.step.proofs.step.Statement.{statement}
 use Rattle.step.proofs.step.Tie as tie
 
-check-requires : tie.Need-check-requires
-check-requires c κs = search needs
-
-enum-known-checked : tie.Need-enum-known-checked
-enum-known-checked c = search needs
-
-enum-told : tie.Need-enum-told
-enum-told c = search needs
-
 -- what the checks have shown
 facts : (c : tie.After-enum-told) → Stepping (c .before .before .before .before .before .args .shape) (c .before .before .before .before .before .args .tracer) (c .before .before .before .before .before .args .field .now) (c .before .before .before .before .before .args .wind .now) (length (c .before .before .before .before .before .args .report .now)) (length (c .before .before .before .before .before .args .work .now))
 facts c = stepping (c .before .before .before .before .before .args .shape) (c .before .before .before .before .before .args .tracer) (c .before .before .before .before .before .args .field .now) (c .before .before .before .before .before .args .wind .now) (length (c .before .before .before .before .before .args .report .now)) (length (c .before .before .before .before .before .args .work .now)) (sym (c .before .before .check .ensures) ∙ ap outcome (c .enum-told .given .1))
 
 tracer-start-requires : tie.Need-tracer-start-requires
-tracer-start-requires c κs = let h = facts c in ((h .shape), h .tracer)
+tracer-start-requires c κs = let h = facts c in (h .shape, h .tracer)
 
-part-length-requires : tie.Need-part-length-requires
-part-length-requires c κs = (facts (c .before) .shape)
+elements-length-requires : tie.Need-elements-length-requires
+elements-length-requires c κs = facts (c .before) .shape
 
 -- the tracer's part ends within the field, and what is lent is that part
-ends : (c : tie.After-part-length) → (c .before .tracer-start .result + c .part-length .result ≤ length (c .before .before .before .before .before .before .before .args .field .now)) × (c .before .tracer-start .result + c .part-length .result ≤ 327680)
+ends : (c : tie.After-elements-length) → (c .before .tracer-start .result + c .elements-length .result ≤ length (c .before .before .before .before .before .before .before .args .field .now)) × (c .before .tracer-start .result + c .elements-length .result ≤ 327680)
 ends c =
     let a = c .before .before .before .before .before .before .before .args in
     let h = facts (c .before .before) in
     let r = tracer-room (a .shape) (a .tracer) (h .tracer) in
-    (omega (arith, r, h .room, c .before .tracer-start .ensures, c .part-length .ensures), omega (arith, r, field-is (a .shape), field-le (a .shape) ((h .shape)), c .before .tracer-start .ensures, c .part-length .ensures))
+    (omega (arith, r, h .room, c .before .tracer-start .ensures, c .elements-length .ensures, part-is-elements quadratic (a .shape)), omega (arith, r, field-is (a .shape), field-le (a .shape) (h .shape), c .before .tracer-start .ensures, c .elements-length .ensures, part-is-elements quadratic (a .shape)))
 
-lent-is : (c : tie.After-part-length) → take (c .before .tracer-start .result + c .part-length .result - c .before .tracer-start .result) (drop (c .before .tracer-start .result) (c .before .before .before .before .before .before .before .args .field .now)) ≡ part quadratic (c .before .before .before .before .before .before .before .args .shape) (c .before .before .before .before .before .before .before .args .tracer) (c .before .before .before .before .before .before .before .args .field .now)
+lent-is : (c : tie.After-elements-length) → take (c .before .tracer-start .result + c .elements-length .result - c .before .tracer-start .result) (drop (c .before .tracer-start .result) (c .before .before .before .before .before .before .before .args .field .now)) ≡ part quadratic (c .before .before .before .before .before .before .before .args .shape) (c .before .before .before .before .before .before .before .args .tracer) (c .before .before .before .before .before .before .before .args .field .now)
 unfolding part
-lent-is c = rw (add-sub-cancel-left (c .before .tracer-start .result) (c .part-length .result), c .before .tracer-start .ensures, c .part-length .ensures)
+lent-is c = rw (add-sub-cancel-left (c .before .tracer-start .result) (c .elements-length .result), c .before .tracer-start .ensures, c .elements-length .ensures, ← (part-is-elements quadratic (c .before .before .before .before .before .before .before .args .shape)))
 
 add-end : tie.Need-add-end
 add-end c = record { fits = omega (arith, ends c) }
 
-elements-requires : tie.Need-elements-requires
-elements-requires c κs = (facts (c .before .before) .shape)
-
-mul-needed : tie.Need-mul-needed
-mul-needed c = record { fits = omega (arith, c .elements .ensures, elements-le (c .before .before .before .before .before .before .before .before .args .shape) ((facts (c .before .before .before) .shape))) }
+work-needed-requires : tie.Need-work-needed-requires
+work-needed-requires c κs = facts (c .before .before) .shape
 
 mul-step : tie.Need-mul-step
 mul-step c = omega (arith, ends (c .before))
-
-sub-step : tie.Need-sub-step
-sub-step c = search needs
-
-part-step-start : tie.Need-part-step-start
-part-step-start c = search needs
 
 part-step-end : tie.Need-part-step-end
 part-step-end c = omega (arith, ends (c .before))
 
 -- the numbers of work that are needed are there, and they alone are lent
-works-there : (c : tie.After-elements) → 64 * c .elements .result ≤ length (c .before .before .before .before .before .before .before .before .args .work .now)
-works-there c = omega (arith, c .elements .ensures, facts (c .before .before .before) .works)
+works-there : (c : tie.After-work-needed) → c .work-needed .result ≤ length (c .before .before .before .before .before .before .before .before .args .work .now)
+works-there c = omega (arith, c .work-needed .ensures, facts (c .before .before .before) .works)
 
-lent-long : (c : tie.After-elements) → length (take (64 * c .elements .result) (c .before .before .before .before .before .before .before .before .args .work .now)) ≡ 64 * c .elements .result
-lent-long c = length-take-le (64 * c .elements .result) (c .before .before .before .before .before .before .before .before .args .work .now) (works-there c)
+lent-long : (c : tie.After-work-needed) → length (take (c .work-needed .result) (c .before .before .before .before .before .before .before .before .args .work .now)) ≡ c .work-needed .result
+lent-long c = length-take-le (c .work-needed .result) (c .before .before .before .before .before .before .before .before .args .work .now) (works-there c)
 
 slice-relend-prefix-step : tie.Need-slice-relend-prefix-step
 slice-relend-prefix-step c = works-there (c .before .before)
@@ -91,10 +72,7 @@ step-requires c κs =
     let t = c .before .before .before .before in
     let a = c .before .before .before .before .before .before .before .before .before .before .before .args in
     let h = facts (c .before .before .before .before .before .before) in
-    (h .shape, (ap length (lent-is t) ∙ part-length quadratic (a .shape) (a .tracer) (a .field .now) (h .tracer) (h .room) ∙ part-is (a .shape), (omega (arith, ap (total quadratic (a .shape)) (lent-is t), h .within-limit), (h .wind-range, (h .reports, omega (arith, lent-long (c .before .before .before), c .before .before .before .elements .ensures))))))
-
-same-length : tie.Need-same-length
-same-length c = search needs
+    (h .shape, (ap length (lent-is t) ∙ part-length quadratic (a .shape) (a .tracer) (a .field .now) (h .tracer) (h .room) ∙ part-is (a .shape), (omega (arith, ap (total quadratic (a .shape)) (lent-is t), h .within-limit), (h .wind-range, (h .reports, omega (arith, lent-long (c .before .before .before), c .before .before .before .work-needed .ensures))))))
 
 returns : tie.Need-returns
 returns c =
@@ -103,12 +81,6 @@ returns c =
     let e = plain-refused (call quadratic (a .shape) (a .tracer) (step l) (a .field .now) .reply) _ (sym (c .before .before .before .check .ensures) ∙ ap outcome (c .before .checked .given .1)) in
     let q = call-refused (a .shape) (a .tracer) (step l) (a .field .now) _ e in
     (q .0, (q .1, (report-refused _ _ (a .report .now) e, work-refused (a .shape) _ _ (a .work .now) e)))
-
-same-length-2 : tie.Need-same-length-2
-same-length-2 c = search needs
-
-same-length-3 : tie.Need-same-length-3
-same-length-3 c = search needs
 
 same-length-4 : tie.Need-same-length-4
 same-length-4 c = search needs
@@ -119,7 +91,7 @@ returns-2 c =
     let a = c .before .before .before .before .before .before .before .before .before .before .before .before .before .before .before .before .args in
     let t = c .before .before .before .before .before .before .before .before .before in
     let s = c .before .before .before .before .before .before .before .before .before .before .tracer-start in
-    let n = t .part-length .result in
+    let n = t .elements-length .result in
     let h = facts (c .before .before .before .before .before .before .before .before .before .before .before) in
     let l = lent (a .wind .now) (a .report .now) (a .work .now) in
     let w = windAt (a .wind .now) in
@@ -127,16 +99,16 @@ returns-2 c =
     let d = c .before .before .before .before .step .ensures in
     let m = c .before .before .before .before .before .before .before .before in
     let x = c .before .before .before .before .step .last .1 .1 .1 .0 in
-    let back : length x ≡ length (take (64 * m .elements .result) (a .work .now)) = c .work .given .0 in
+    let back : length x ≡ length (take (m .work-needed .result) (a .work .now)) = c .work .given .0 in
     let e = h .answers in
     let q = call-accepted (a .shape) (a .tracer) (step l) (a .field .now) _ e in (
       q .0,
       (
-        part-back (a .shape) (a .tracer) (s .result) (s .result + n - s .result) _ (tracerStep quadratic (a .shape) w p .part) (a .field .now) (s .ensures) (add-sub-cancel-left (s .result) n ∙ t .part-length .ensures)
+        part-back (a .shape) (a .tracer) (s .result) (s .result + n - s .result) _ (tracerStep quadratic (a .shape) w p .part) (a .field .now) (s .ensures) (add-sub-cancel-left (s .result) n ∙ t .elements-length .ensures)
             (d .0 ∙ ap (λ x. tracerStep quadratic (a .shape) w x .part) (lent-is t)) (length-after quadratic (a .shape) (h .shape .nx-above) (h .shape .ny-above) w p (stages quadratic (a .shape) w p)) ∙ q .1,
-        (d .1 ∙ ap (λ x. overwrite 0 (tracerStep quadratic (a .shape) w x .report) (a .report .now)) (lent-is t) ∙ report-accepted _ _ (a .report .now) e, work-accepted (a .shape) _ _ (a .work .now) x _ e (ap (λ k. x ++ drop (64 * k) (a .work .now)) (m .elements .ensures)) (back ∙ lent-long m ∙ ap (λ k. 64 * k) (m .elements .ensures)) (same-length-4 c)),
+        (d .1 ∙ ap (λ x. overwrite 0 (tracerStep quadratic (a .shape) w x .report) (a .report .now)) (lent-is t) ∙ report-accepted _ _ (a .report .now) e, work-accepted (a .shape) _ _ (a .work .now) x _ e (ap (λ k. x ++ drop k (a .work .now)) (m .work-needed .ensures)) (back ∙ lent-long m ∙ m .work-needed .ensures) (same-length-4 c)),
       ),
     )
 
 pub step-spec : {M : Type 1} → statement M
-step-spec = tie.close (tie.spec check-requires enum-known-checked enum-told tracer-start-requires part-length-requires add-end elements-requires mul-needed mul-step sub-step part-step-start part-step-end slice-relend-prefix-step slice-aggregate-step step-requires same-length returns same-length-2 same-length-3 same-length-4 returns-2)
+step-spec = tie.close (tie.spec (λ c κs. search needs) (λ c. search needs) (λ c. search needs) tracer-start-requires elements-length-requires add-end work-needed-requires mul-step (λ c. search needs) (λ c. search needs) part-step-end slice-relend-prefix-step slice-aggregate-step step-requires (λ c. search needs) returns (λ c. search needs) (λ c. search needs) same-length-4 returns-2)
