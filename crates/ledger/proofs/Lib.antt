@@ -3,3 +3,4 @@ pub mod Agreement
 pub mod Striking
 pub mod Theorem
 pub mod Rows
+pub mod Listed
