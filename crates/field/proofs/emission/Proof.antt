@@ -21,35 +21,57 @@ use Rattle.field.proofs.InPlaceLaws.{mass-lent, emitted-lent, back-in-p
 use Rattle.field.proofs.emission.Statement.{statement}
 use Rattle.field.proofs.emission.Tie as tie
 
+-- places of the code, seen from later ones
+abbrev entry-from-known-told2 : tie.After-known-told2 → tie.Start
+entry-from-known-told2 c = c .before .before .before .before .before .before
+
+abbrev entry-from-else1 : tie.Else1 → tie.Start
+entry-from-else1 c = entry-from-known-told2 (c .before .before)
+
+abbrev entry-from-element-start : tie.After-element-start → tie.Start
+entry-from-element-start c = entry-from-else1 (c .before .before)
+
+abbrev entry-from-emit-arg : tie.After-emit-arg → tie.Start
+entry-from-emit-arg c = entry-from-element-start (c .before)
+
+abbrev known-told2-from-else1 : tie.Else1 → tie.After-known-told2
+known-told2-from-else1 c = c .before .before
+
+abbrev known-told2-from-then2 : tie.Then2 → tie.After-known-told2
+known-told2-from-then2 c = known-told2-from-else1 (c .before)
+
+abbrev known-told2-from-emit-arg : tie.After-emit-arg → tie.After-known-told2
+known-told2-from-emit-arg c = known-told2-from-else1 (c .before .before .before)
+
 -- what the reading of the total says
-read : (c : tie.After-known-told2) → totalReading quadratic (c .before .before .before .before .before .before .args .shape) (c .before .before .before .before .before .before .args .tracer) (c .before .before .before .before .before .before .args .field .now) ≡ accepted (c .before .found2 .given .0 .0)
+read : (c : tie.After-known-told2) → totalReading quadratic (entry-from-known-told2 c .args .shape) (entry-from-known-told2 c .args .tracer) (entry-from-known-told2 c .args .field .now) ≡ accepted (c .before .found2 .given .0 .0)
 read c = sym (c .before .before .before .total .ensures) ∙ ap reading (c .before .found2 .given .1)
 
 returns : tie.Need-returns
 returns c = let a = c .before .before .before .before .before .before .before .before .args in call-refused (a .shape) (a .tracer) (emission (a .i) (a .j) (a .q)) (a .field .now) 8 (emission-off-grid (a .shape) (a .tracer) (a .i) (a .j) (a .q) (a .field .now) _ (read (c .before .before)) (sym (c .before .on-grid .ensures) ∙ not-true _ (c .if1 .taken)))
 
-grid : (c : tie.Else1) → onGrid (c .before .before .before .before .before .before .before .before .args .shape) (c .before .before .before .before .before .before .before .before .args .i) (c .before .before .before .before .before .before .before .before .args .j) ≡ true
+grid : (c : tie.Else1) → onGrid (entry-from-else1 c .args .shape) (entry-from-else1 c .args .i) (entry-from-else1 c .args .j) ≡ true
 grid c = sym (c .before .on-grid .ensures) ∙ not-false _ (c .if1 .left)
 
-within : (c : tie.Else1) → Inside (c .before .before .before .before .before .before .before .before .args .shape) (c .before .before .before .before .before .before .before .before .args .tracer) (c .before .before .before .before .before .before .before .before .args .i) (c .before .before .before .before .before .before .before .before .args .j)
-within c = let a = c .before .before .before .before .before .before .before .before .args in inside (a .shape) (a .tracer) (a .i) (a .j) (a .field .now) _ (read (c .before .before)) (grid c)
+within : (c : tie.Else1) → Inside (entry-from-else1 c .args .shape) (entry-from-else1 c .args .tracer) (entry-from-else1 c .args .i) (entry-from-else1 c .args .j)
+within c = let a = entry-from-else1 c .args in inside (a .shape) (a .tracer) (a .i) (a .j) (a .field .now) _ (read (known-told2-from-else1 c)) (grid c)
 
 sub-if2 : tie.Need-sub-if2
-sub-if2 c = let a = c .before .before .before .before .before .before .before .before .args in found (a .shape) (a .tracer) (a .field .now) _ (read (c .before .before)) .small
+sub-if2 c = let a = entry-from-else1 c .args in found (a .shape) (a .tracer) (a .field .now) _ (read (known-told2-from-else1 c)) .small
 
 returns-2 : tie.Need-returns-2
 returns-2 c =
     let a = c .before .before .before .before .before .before .before .before .before .args in
-    let h = found (a .shape) (a .tracer) (a .field .now) _ (read (c .before .before .before)) in
-    call-refused (a .shape) (a .tracer) (emission (a .i) (a .j) (a .q)) (a .field .now) 9 (emission-above (a .shape) (a .tracer) (a .i) (a .j) (a .q) (a .field .now) _ (read (c .before .before .before)) (grid (c .before)) (omega (arith, c .if2 .taken, h .small)))
+    let h = found (a .shape) (a .tracer) (a .field .now) _ (read (known-told2-from-then2 c)) in
+    call-refused (a .shape) (a .tracer) (emission (a .i) (a .j) (a .q)) (a .field .now) 9 (emission-above (a .shape) (a .tracer) (a .i) (a .j) (a .q) (a .field .now) _ (read (known-told2-from-then2 c)) (grid (c .before)) (omega (arith, c .if2 .taken, h .small)))
 
 element-start-requires : tie.Need-element-start-requires
 element-start-requires c κs = within (c .before)
 
 -- the element ends within the field
-ends : (c : tie.After-element-start) → (c .element-start .result + 10 ≤ length (c .before .before .before .before .before .before .before .before .before .before .args .field .now)) × (c .element-start .result + 10 ≤ 327680)
+ends : (c : tie.After-element-start) → (c .element-start .result + 10 ≤ length (entry-from-element-start c .args .field .now)) × (c .element-start .result + 10 ≤ 327680)
 ends c =
-    let a = c .before .before .before .before .before .before .before .before .before .before .args in
+    let a = entry-from-element-start c .args in
     element-ends (a .shape) (a .tracer) (a .i) (a .j) (within (c .before .before)) _ (found (a .shape) (a .tracer) (a .field .now) _ (read (c .before .before .before .before)) .room) _ (c .element-start .ensures)
 
 add-end : tie.Need-add-end
@@ -62,18 +84,18 @@ part-emit-end : tie.Need-part-emit-end
 part-emit-end c = omega (arith, ends c)
 
 -- what is lent holds the element's mass
-lent-mass : (c : tie.After-emit-arg) → mass quadratic (take (c .before .element-start .result + 10 - c .before .element-start .result) (drop (c .before .element-start .result) (c .before .before .before .before .before .before .before .before .before .before .before .args .field .now))) 0 ≡ mass quadratic (part quadratic (c .before .before .before .before .before .before .before .before .before .before .before .args .shape) (c .before .before .before .before .before .before .before .before .before .before .before .args .tracer) (c .before .before .before .before .before .before .before .before .before .before .before .args .field .now)) (element (c .before .before .before .before .before .before .before .before .before .before .before .args .shape) (c .before .before .before .before .before .before .before .before .before .before .before .args .i) (c .before .before .before .before .before .before .before .before .before .before .before .args .j))
+lent-mass : (c : tie.After-emit-arg) → mass quadratic (take (c .before .element-start .result + 10 - c .before .element-start .result) (drop (c .before .element-start .result) (entry-from-emit-arg c .args .field .now))) 0 ≡ mass quadratic (part quadratic (entry-from-emit-arg c .args .shape) (entry-from-emit-arg c .args .tracer) (entry-from-emit-arg c .args .field .now)) (element (entry-from-emit-arg c .args .shape) (entry-from-emit-arg c .args .i) (entry-from-emit-arg c .args .j))
 lent-mass c =
-    let a = c .before .before .before .before .before .before .before .before .before .before .before .args in
+    let a = entry-from-emit-arg c .args in
     let st = elementStart (a .shape) (a .tracer) (a .i) (a .j) in
-    rw (c .before .element-start .ensures) (mass-lent (a .shape) (a .tracer) (a .i) (a .j) (a .field .now) (within (c .before .before .before)) (found (a .shape) (a .tracer) (a .field .now) _ (read (c .before .before .before .before .before)) .room) (st + 10 - st) (add-sub-cancel-left st 10))
+    rw (c .before .element-start .ensures) (mass-lent (a .shape) (a .tracer) (a .i) (a .j) (a .field .now) (within (c .before .before .before)) (found (a .shape) (a .tracer) (a .field .now) _ (read (known-told2-from-emit-arg c)) .room) (st + 10 - st) (add-sub-cancel-left st 10))
 
 emit-requires : tie.Need-emit-requires
 emit-requires c κs =
     let r = c .before .element-start .result in
-    let a = c .before .before .before .before .before .before .before .before .before .before .before .args in
+    let a = entry-from-emit-arg c .args in
     let b = c .before .before in
-    let h = found (a .shape) (a .tracer) (a .field .now) _ (read (c .before .before .before .before .before)) in
+    let h = found (a .shape) (a .tracer) (a .field .now) _ (read (known-told2-from-emit-arg c)) in
     let w = within (b .before) in
     (part-size 10 r (r + 10 - r) (a .field .now) (add-sub-cancel-left r 10) (ends (c .before) .0), omega (arith, lent-mass c, mass-le-total quadratic (a .shape) (part quadratic (a .shape) (a .tracer) (a .field .now)) (element (a .shape) (a .i) (a .j)) (element-lt (a .shape) (a .i) (a .j) (w .column) (w .row)), h .sum, h .small, b .if2 .left))
 

@@ -23,10 +23,20 @@ returns c = fresh-2 _ _ _ (sym (c .before .admitted .ensures) ∙ not-true _ (c 
 shape : (c : tie.Else1) → admitted (c .before .before .before .args .shape) ≡ true
 shape c = sym (c .before .admitted .ensures) ∙ not-false _ (c .if1 .left)
 
-room : (c : tie.Else2) → fieldLength quadratic (c .before .before .before .before .before .before .args .shape) ≤ length (c .before .before .before .before .before .before .args .field .now)
+-- places of the code, seen from later ones
+abbrev entry-from-else2 : tie.Else2 → tie.Start
+entry-from-else2 c = c .before .before .before .before .before .before
+
+abbrev entry-from-else3 : tie.Else3 → tie.Start
+entry-from-else3 c = entry-from-else2 (c .before)
+
+abbrev entry-from-winds : tie.After-winds → tie.Start
+entry-from-winds c = entry-from-else3 (c .before .before .before .before .before .before .before)
+
+room : (c : tie.Else2) → fieldLength quadratic (entry-from-else2 c .args .shape) ≤ length (entry-from-else2 c .args .field .now)
 room c = omega (arith, c .before .before .field-length .ensures)
 
-room-wind : (c : tie.Else3) → faces (c .before .before .before .before .before .before .before .args .shape) ≤ length (c .before .before .before .before .before .before .before .args .winds .now)
+room-wind : (c : tie.Else3) → faces (entry-from-else3 c .args .shape) ≤ length (entry-from-else3 c .args .winds .now)
 room-wind c = omega (arith, c .before .before .faces .ensures)
 
 field-length-requires : tie.Need-field-length-requires
@@ -49,9 +59,9 @@ clear-wind-requires c κs = omega arith
 
 returns-4 : tie.Need-returns-4
 returns-4 c =
-    let f = c .before .before .before .before .before .clear .ensures ∙ ap (λ n. overwrite 0 (replicate n 0) (c .before .before .before .before .before .before .before .before .before .before .before .before .before .before .args .field .now)) (c .before .before .before .before .before .before .before .before .before .before .field-length .ensures) in
-    let w = c .before .clear-wind .ensures ∙ ap (λ n. overwrite 0 (replicate n (pos 0)) (c .before .before .before .before .before .before .before .before .before .before .before .before .before .before .args .winds .now)) (c .before .before .before .before .before .before .before .before .before .faces .ensures) in
-    let d = fresh-done (c .before .before .before .before .before .before .before .before .before .before .before .before .before .before .args .shape) (c .before .before .before .before .before .before .before .before .before .before .before .before .before .before .args .field .now) (c .before .before .before .before .before .before .before .before .before .before .before .before .before .before .args .winds .now) (shape (c .before .before .before .before .before .before .before .before .before .before .before)) (room (c .before .before .before .before .before .before .before .before)) (room-wind (c .before .before .before .before .before .before .before)) in
+    let f = c .before .before .before .before .before .clear .ensures ∙ ap (λ n. overwrite 0 (replicate n 0) (entry-from-winds c .args .field .now)) (c .before .before .before .before .before .before .before .before .before .before .field-length .ensures) in
+    let w = c .before .clear-wind .ensures ∙ ap (λ n. overwrite 0 (replicate n (pos 0)) (entry-from-winds c .args .winds .now)) (c .before .before .before .before .before .before .before .before .before .faces .ensures) in
+    let d = fresh-done (entry-from-winds c .args .shape) (entry-from-winds c .args .field .now) (entry-from-winds c .args .winds .now) (shape (c .before .before .before .before .before .before .before .before .before .before .before)) (room (c .before .before .before .before .before .before .before .before)) (room-wind (c .before .before .before .before .before .before .before)) in
     (d .0, (f ∙ d .1 .0, w ∙ d .1 .1))
 
 pub fresh-spec : {M : Type 1} → statement M

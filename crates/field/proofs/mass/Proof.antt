@@ -17,27 +17,40 @@ use Rattle.field.proofs.InPlaceLaws.{mass-lent}
 use Rattle.field.proofs.mass.Statement.{statement}
 use Rattle.field.proofs.mass.Tie as tie
 
+-- places of the code, seen from later ones
+abbrev entry-from-enum-told : tie.After-enum-told → tie.Start
+entry-from-enum-told c = c .before .before .before .before
+
+abbrev entry-from-else1 : tie.Else1 → tie.Start
+entry-from-else1 c = entry-from-enum-told (c .before .before)
+
+abbrev entry-from-element-start : tie.After-element-start → tie.Start
+entry-from-element-start c = entry-from-else1 (c .before)
+
+abbrev enum-told-from-element-start : tie.After-element-start → tie.After-enum-told
+enum-told-from-element-start c = c .before .before .before
+
 -- what the reading of the total says
-read : (c : tie.After-enum-told) → totalReading quadratic (c .before .before .before .before .args .shape) (c .before .before .before .before .args .tracer) (c .before .before .before .before .args .field .now) ≡ accepted (c .enum-told .given .0 .0)
+read : (c : tie.After-enum-told) → totalReading quadratic (entry-from-enum-told c .args .shape) (entry-from-enum-told c .args .tracer) (entry-from-enum-told c .args .field .now) ≡ accepted (c .enum-told .given .0 .0)
 read c = sym (c .before .before .total .ensures) ∙ ap reading (c .enum-told .given .1)
 
 returns : tie.Need-returns
 returns c = let a = c .before .before .before .before .before .before .args in sym (mass-off-grid (a .shape) (a .tracer) (a .i) (a .j) (a .field .now) _ (read (c .before .before)) (sym (c .before .on-grid .ensures) ∙ not-true _ (c .if1 .taken)))
 
-grid : (c : tie.Else1) → onGrid (c .before .before .before .before .before .before .args .shape) (c .before .before .before .before .before .before .args .i) (c .before .before .before .before .before .before .args .j) ≡ true
+grid : (c : tie.Else1) → onGrid (entry-from-else1 c .args .shape) (entry-from-else1 c .args .i) (entry-from-else1 c .args .j) ≡ true
 grid c = sym (c .before .on-grid .ensures) ∙ not-false _ (c .if1 .left)
 
-within : (c : tie.Else1) → Inside (c .before .before .before .before .before .before .args .shape) (c .before .before .before .before .before .before .args .tracer) (c .before .before .before .before .before .before .args .i) (c .before .before .before .before .before .before .args .j)
-within c = let a = c .before .before .before .before .before .before .args in inside (a .shape) (a .tracer) (a .i) (a .j) (a .field .now) _ (read (c .before .before)) (grid c)
+within : (c : tie.Else1) → Inside (entry-from-else1 c .args .shape) (entry-from-else1 c .args .tracer) (entry-from-else1 c .args .i) (entry-from-else1 c .args .j)
+within c = let a = entry-from-else1 c .args in inside (a .shape) (a .tracer) (a .i) (a .j) (a .field .now) _ (read (c .before .before)) (grid c)
 
 element-start-requires : tie.Need-element-start-requires
 element-start-requires c κs = within c
 
 -- the element ends within the field
-ends : (c : tie.After-element-start) → (c .element-start .result + 10 ≤ length (c .before .before .before .before .before .before .before .args .field .now)) × (c .element-start .result + 10 ≤ 327680)
+ends : (c : tie.After-element-start) → (c .element-start .result + 10 ≤ length (entry-from-element-start c .args .field .now)) × (c .element-start .result + 10 ≤ 327680)
 ends c =
-    let a = c .before .before .before .before .before .before .before .args in
-    element-ends (a .shape) (a .tracer) (a .i) (a .j) (within (c .before)) _ (found (a .shape) (a .tracer) (a .field .now) _ (read (c .before .before .before)) .room) _ (c .element-start .ensures)
+    let a = entry-from-element-start c .args in
+    element-ends (a .shape) (a .tracer) (a .i) (a .j) (within (c .before)) _ (found (a .shape) (a .tracer) (a .field .now) _ (read (enum-told-from-element-start c)) .room) _ (c .element-start .ensures)
 
 add-end : tie.Need-add-end
 add-end c = record { fits = omega (arith, ends c) }
@@ -59,9 +72,9 @@ returns-3 c =
     let b = c .before .before in
     let a = c .before .before .before .before .before .before .before .before .before .args in
     let st = elementStart (a .shape) (a .tracer) (a .i) (a .j) in
-    let h = found (a .shape) (a .tracer) (a .field .now) _ (read (b .before .before .before)) in
+    let h = found (a .shape) (a .tracer) (a .field .now) _ (read (enum-told-from-element-start b)) in
     ap accepted (c .mass .ensures ∙ (rw (b .element-start .ensures) (mass-lent (a .shape) (a .tracer) (a .i) (a .j) (a .field .now) (within (b .before)) (h .room) (st + 10 - st) (add-sub-cancel-left st 10))))
-    ∙ sym (mass-found (a .shape) (a .tracer) (a .i) (a .j) (a .field .now) _ (read (b .before .before .before)) (grid (b .before)))
+    ∙ sym (mass-found (a .shape) (a .tracer) (a .i) (a .j) (a .field .now) _ (read (enum-told-from-element-start b)) (grid (b .before)))
 
 pub mass-spec : {M : Type 1} → statement M
 mass-spec = tie.close (tie.spec (λ c κs. search needs) (λ c. search needs) (λ c. search needs) (λ c κs. search needs) returns element-start-requires add-end mul-mass (λ c. search needs) (λ c. search needs) part-mass-end mass-requires returns-2 returns-3)

@@ -18,12 +18,22 @@ use Rattle.field.proofs.total.Tie as tie
 returns : tie.Need-returns
 returns c = let a = c .before .before .before .args in sym (total-bad-shape (a .shape) (a .tracer) (a .field .now) (sym (c .before .admitted .ensures) ∙ not-true _ (c .if1 .taken)))
 
+-- places of the code, seen from later ones
+abbrev entry-from-else1 : tie.Else1 → tie.Start
+entry-from-else1 c = c .before .before .before
+
+abbrev entry-from-else2 : tie.Else2 → tie.Start
+entry-from-else2 c = entry-from-else1 (c .before .before)
+
+abbrev entry-from-part-length : tie.After-part-length → tie.Start
+entry-from-part-length c = entry-from-else2 (c .before .before .before .before)
+
 -- what the first tests say
-shape-is : (c : tie.Else1) → admitted (c .before .before .before .args .shape) ≡ true
+shape-is : (c : tie.Else1) → admitted (entry-from-else1 c .args .shape) ≡ true
 shape-is c = sym (c .before .admitted .ensures) ∙ not-false _ (c .if1 .left)
 
-small : (c : tie.Else1) → Admitted (c .before .before .before .args .shape)
-small c = (ranges (c .before .before .before .args .shape) (rw (shape-is c) tt))
+small : (c : tie.Else1) → Admitted (entry-from-else1 c .args .shape)
+small c = (ranges (entry-from-else1 c .args .shape) (rw (shape-is c) tt))
 
 field-length-requires : tie.Need-field-length-requires
 field-length-requires c κs = small c
@@ -31,7 +41,7 @@ field-length-requires c κs = small c
 returns-2 : tie.Need-returns-2
 returns-2 c = let a = c .before .before .before .before .before .args in sym (total-short (a .shape) (a .tracer) (a .field .now) (shape-is (c .before .before)) (rw (c .before .field-length .ensures) at (c .if2 .taken)))
 
-room : (c : tie.Else2) → fieldLength quadratic (c .before .before .before .before .before .args .shape) ≤ length (c .before .before .before .before .before .args .field .now)
+room : (c : tie.Else2) → fieldLength quadratic (entry-from-else2 c .args .shape) ≤ length (entry-from-else2 c .args .field .now)
 room c = rw (c .before .field-length .ensures) at (c .if2 .left)
 
 returns-3 : tie.Need-returns-3
@@ -44,14 +54,14 @@ part-length-requires : tie.Need-part-length-requires
 part-length-requires c κs = small (c .before .before .before .before .before)
 
 -- the tracer's part ends within the field
-ends : (c : tie.After-part-length) → (c .before .tracer-start .result + c .part-length .result ≤ length (c .before .before .before .before .before .before .before .before .before .args .field .now)) × (c .before .tracer-start .result + c .part-length .result ≤ 327680)
+ends : (c : tie.After-part-length) → (c .before .tracer-start .result + c .part-length .result ≤ length (entry-from-part-length c .args .field .now)) × (c .before .tracer-start .result + c .part-length .result ≤ 327680)
 ends c =
-    let a = c .before .before .before .before .before .before .before .before .before .args in
+    let a = entry-from-part-length c .args in
     let r = tracer-room (a .shape) (a .tracer) (c .before .before .if3 .left) in
     (omega (arith, r, room (c .before .before .before .before), c .before .tracer-start .ensures, c .part-length .ensures), omega (arith, r, field-is (a .shape), field-le (a .shape) (small (c .before .before .before .before .before .before)), c .before .tracer-start .ensures, c .part-length .ensures))
 
 -- what is lent is the tracer's part
-lent-is : (c : tie.After-part-length) → take (c .before .tracer-start .result + c .part-length .result - c .before .tracer-start .result) (drop (c .before .tracer-start .result) (c .before .before .before .before .before .before .before .before .before .args .field .now)) ≡ part quadratic (c .before .before .before .before .before .before .before .before .before .args .shape) (c .before .before .before .before .before .before .before .before .before .args .tracer) (c .before .before .before .before .before .before .before .before .before .args .field .now)
+lent-is : (c : tie.After-part-length) → take (c .before .tracer-start .result + c .part-length .result - c .before .tracer-start .result) (drop (c .before .tracer-start .result) (entry-from-part-length c .args .field .now)) ≡ part quadratic (entry-from-part-length c .args .shape) (entry-from-part-length c .args .tracer) (entry-from-part-length c .args .field .now)
 unfolding part
 lent-is c = rw (add-sub-cancel-left (c .before .tracer-start .result) (c .part-length .result), c .before .tracer-start .ensures, c .part-length .ensures)
 

@@ -29,13 +29,29 @@ whole c = search needs
 shape : (c : tie.Else1) → admitted (c .before .before .before .args .shape) ≡ true
 shape c = sym (c .before .admitted .ensures) ∙ not-false _ (c .if1 .left)
 
-room : (c : tie.Else2) → faces (c .before .before .before .before .before .args .shape) ≤ length (c .before .before .before .before .before .args .winds .now)
+-- places of the code, seen from later ones
+abbrev entry-from-else2 : tie.Else2 → tie.Start
+entry-from-else2 c = c .before .before .before .before .before
+
+abbrev entry-from-else4 : tie.Else4 → tie.Start
+entry-from-else4 c = entry-from-else2 (c .before .before .before .before)
+
+abbrev entry-from-face-at : tie.After-face-at → tie.Start
+entry-from-face-at c = entry-from-else4 (c .before)
+
+abbrev else1-from-face-at : tie.After-face-at → tie.Else1
+else1-from-face-at c = c .before .before .before .before .before .before .before
+
+abbrev else2-from-face-at : tie.After-face-at → tie.Else2
+else2-from-face-at c = c .before .before .before .before .before
+
+room : (c : tie.Else2) → faces (entry-from-else2 c .args .shape) ≤ length (entry-from-else2 c .args .winds .now)
 room c = omega (arith, c .before .faces .ensures)
 
 range : (c : tie.Else3) → windInRange (c .before .before .before .before .before .before .before .args .face .wind) ≡ true
 range c = ap windInRange (sym (whole (c .before .before .before .before .before .before))) ∙ sym (c .before .wind-in-range .ensures) ∙ not-false _ (c .if3 .left)
 
-grid : (c : tie.Else4) → onGrid (c .before .before .before .before .before .before .before .before .before .args .shape) (c .before .before .before .before .before .before .before .before .before .args .face .i) (c .before .before .before .before .before .before .before .before .before .args .face .j) ≡ true
+grid : (c : tie.Else4) → onGrid (entry-from-else4 c .args .shape) (entry-from-else4 c .args .face .i) (entry-from-else4 c .args .face .j) ≡ true
 grid c = sym (c .before .on-grid .ensures) ∙ not-false _ (c .if4 .left)
 
 faces-requires : tie.Need-faces-requires
@@ -60,11 +76,11 @@ face-at-requires : tie.Need-face-at-requires
 face-at-requires c κs = inside-of _ _ _ (shape (c .before .before .before .before .before .before)) (grid c)
 
 -- the face stands within the wind
-inside : (c : tie.After-face-at) → c .face-at .result < length (c .before .before .before .before .before .before .before .before .before .before .args .winds .now)
+inside : (c : tie.After-face-at) → c .face-at .result < length (entry-from-face-at c .args .winds .now)
 inside c =
-    let a = c .before .before .before .before .before .before .before .before .before .before .args in
-    let h = inside-of (a .shape) (a .face .i) (a .face .j) (shape (c .before .before .before .before .before .before .before)) (grid (c .before)) in
-    omega (arith, c .face-at .ensures, room (c .before .before .before .before .before), face-lt (a .shape) (a .face .way) (a .face .i) (a .face .j) (h .column) (h .row))
+    let a = entry-from-face-at c .args in
+    let h = inside-of (a .shape) (a .face .i) (a .face .j) (shape (else1-from-face-at c)) (grid (c .before)) in
+    omega (arith, c .face-at .ensures, room (else2-from-face-at c), face-lt (a .shape) (a .face .way) (a .face .i) (a .face .j) (h .column) (h .row))
 
 mul-new : tie.Need-mul-new
 mul-new c = omega (arith, inside c)
@@ -73,7 +89,7 @@ slice-set-from-new : tie.Need-slice-set-from-new
 slice-set-from-new c = inside c
 
 returns-5 : tie.Need-returns-5
-returns-5 c = let a = c .before .before .before .before .before .before .before .before .before .before .args in rw (c .face-at .ensures, whole (c .before .before .before .before .before .before .before .before .before)) (wind-done (a .shape) (a .face) (a .winds .now) (shape (c .before .before .before .before .before .before .before)) (room (c .before .before .before .before .before)) (range (c .before .before .before)) (grid (c .before)))
+returns-5 c = let a = entry-from-face-at c .args in rw (c .face-at .ensures, whole (c .before .before .before .before .before .before .before .before .before)) (wind-done (a .shape) (a .face) (a .winds .now) (shape (else1-from-face-at c)) (room (else2-from-face-at c)) (range (c .before .before .before)) (grid (c .before)))
 
 pub wind-spec : {M : Type 1} → statement M
 wind-spec = tie.close (tie.spec admitted-requires returns faces-requires returns-2 wind-in-range-requires returns-3 on-grid-requires returns-4 face-at-requires mul-new slice-set-from-new (λ c. search needs) returns-5)

@@ -16,12 +16,19 @@ use Rattle.field.proofs.InPlaceLaws.{mass-lent, withdrawn-lent, back-in
 use Rattle.field.proofs.withdrawal.Statement.{statement}
 use Rattle.field.proofs.withdrawal.Tie as tie
 
+-- places of the code, seen from later ones
+abbrev entry-from-known-told2 : tie.After-known-told2 → tie.Start
+entry-from-known-told2 c = c .before .before .before .before .before .before
+
+abbrev entry-from-element-start : tie.After-element-start → tie.Start
+entry-from-element-start c = entry-from-known-told2 (c .before .before)
+
 -- what the reading of the mass says, and with it of the element
-read : (c : tie.After-known-told2) → massReading quadratic (c .before .before .before .before .before .before .args .shape) (c .before .before .before .before .before .before .args .tracer) (c .before .before .before .before .before .before .args .i) (c .before .before .before .before .before .before .args .j) (c .before .before .before .before .before .before .args .field .now) ≡ accepted (c .before .found2 .given .0 .0)
+read : (c : tie.After-known-told2) → massReading quadratic (entry-from-known-told2 c .args .shape) (entry-from-known-told2 c .args .tracer) (entry-from-known-told2 c .args .i) (entry-from-known-told2 c .args .j) (entry-from-known-told2 c .args .field .now) ≡ accepted (c .before .found2 .given .0 .0)
 read c = sym (c .before .before .before .mass .ensures) ∙ ap reading (c .before .found2 .given .1)
 
-known : (c : tie.After-known-told2) → Held (c .before .before .before .before .before .before .args .shape) (c .before .before .before .before .before .before .args .tracer) (c .before .before .before .before .before .before .args .i) (c .before .before .before .before .before .before .args .j) (c .before .before .before .before .before .before .args .field .now) (c .before .found2 .given .0 .0)
-known c = let a = c .before .before .before .before .before .before .args in held (a .shape) (a .tracer) (a .i) (a .j) (a .field .now) _ (read c)
+known : (c : tie.After-known-told2) → Held (entry-from-known-told2 c .args .shape) (entry-from-known-told2 c .args .tracer) (entry-from-known-told2 c .args .i) (entry-from-known-told2 c .args .j) (entry-from-known-told2 c .args .field .now) (c .before .found2 .given .0 .0)
+known c = let a = entry-from-known-told2 c .args in held (a .shape) (a .tracer) (a .i) (a .j) (a .field .now) _ (read c)
 
 returns : tie.Need-returns
 returns c = let a = c .before .before .before .before .before .before .before .args in call-refused (a .shape) (a .tracer) (withdrawal (a .i) (a .j) (a .q)) (a .field .now) 10 (withdrawal-over (a .shape) (a .tracer) (a .i) (a .j) (a .field .now) (a .q) _ (read (c .before)) (c .if1 .taken))
@@ -30,9 +37,9 @@ element-start-requires : tie.Need-element-start-requires
 element-start-requires c κs = known (c .before) .within
 
 -- the element ends within the field
-ends : (c : tie.After-element-start) → (c .element-start .result + 10 ≤ length (c .before .before .before .before .before .before .before .before .args .field .now)) × (c .element-start .result + 10 ≤ 327680)
+ends : (c : tie.After-element-start) → (c .element-start .result + 10 ≤ length (entry-from-element-start c .args .field .now)) × (c .element-start .result + 10 ≤ 327680)
 ends c =
-    let a = c .before .before .before .before .before .before .before .before .args in
+    let a = entry-from-element-start c .args in
     let k = known (c .before .before) in
     element-ends (a .shape) (a .tracer) (a .i) (a .j) (k .within) _ (k .room) _ (c .element-start .ensures)
 

@@ -24,26 +24,45 @@ loop-holds : tie.Need-loop-holds Inv-loop μ-loop
 unfolding table
 loop-holds c = (omega arith, omega arith, refl, refl)
 
+-- places of the code, seen from later ones
+abbrev entry-from-part-length : tie.After-part-length Inv-loop μ-loop → tie.Start Inv-loop μ-loop
+entry-from-part-length c = c .before .before .before
+
+abbrev entry-from-section-start2 : tie.After-section-start2 Inv-loop μ-loop → tie.Start Inv-loop μ-loop
+entry-from-section-start2 c = entry-from-part-length (c .before .before .before .before)
+
+abbrev part-length-from-in-loop : tie.In-loop Inv-loop μ-loop → tie.After-part-length Inv-loop μ-loop
+part-length-from-in-loop c = c .before .before
+
+abbrev at-loop-from-section-start2 : tie.After-section-start2 Inv-loop μ-loop → tie.At-loop Inv-loop μ-loop
+at-loop-from-section-start2 c = c .before .before .before
+
+abbrev in-loop-from-section-start2 : tie.After-section-start2 Inv-loop μ-loop → tie.In-loop Inv-loop μ-loop
+in-loop-from-section-start2 c = c .before .before
+
+abbrev in-loop-from-read-numbers-arg : tie.After-read-numbers-arg Inv-loop μ-loop → tie.In-loop Inv-loop μ-loop
+in-loop-from-read-numbers-arg c = in-loop-from-section-start2 (c .before)
+
 -- the section of a turn
-span : (c : tie.After-section-start2 Inv-loop μ-loop) → (c .section-start2 .result ≡ c .before .section-start .result + 4 * partLength quadratic (c .before .before .before .before .before .before .before .args .shape)) × (c .section-start2 .result ≤ length (c .before .before .before .before .before .before .before .args .file .now))
+span : (c : tie.After-section-start2 Inv-loop μ-loop) → (c .section-start2 .result ≡ c .before .section-start .result + 4 * partLength quadratic (entry-from-section-start2 c .args .shape)) × (c .section-start2 .result ≤ length (entry-from-section-start2 c .args .file .now))
 span c =
-    let s = c .before .before .before .before .before .before .before in
-    let t = tracer-span (s .args .shape) (c .before .before .before .loop .s) (c .before .section-start .result) (c .section-start2 .result) (c .before .before .loop-test .taken) (c .before .section-start .ensures) (c .section-start2 .ensures) in
+    let s = entry-from-section-start2 c in
+    let t = tracer-span (s .args .shape) (at-loop-from-section-start2 c .loop .s) (c .before .section-start .result) (c .section-start2 .result) (in-loop-from-section-start2 c .loop-test .taken) (c .before .section-start .ensures) (c .section-start2 .ensures) in
     (t .0, omega (arith, t .1, s .pre .1 .0))
 
 -- the tracer's part that a turn writes ends within the field
-room : (c : tie.In-loop Inv-loop μ-loop) → (c .before .loop .to + c .before .before .part-length .result ≤ length (c .before .loop .field)) × (c .before .loop .to + c .before .before .part-length .result ≤ 327680)
+room : (c : tie.In-loop Inv-loop μ-loop) → (c .before .loop .to + part-length-from-in-loop c .part-length .result ≤ length (c .before .loop .field)) × (c .before .loop .to + part-length-from-in-loop c .part-length .result ≤ 327680)
 room c =
     let l = c .before in
     let t = l .before in
-    let s = t .before .before .before in
+    let s = entry-from-part-length t in
     let g = s .args .shape in
     let e : l .loop .to ≡ l .loop .s * partLength quadratic g = l .loop .inv .1 ∙ ap (λ n. l .loop .s * n) (t .part-length .ensures) in
     let r = tracer-room g (l .loop .s) (c .loop-test .taken) in
     (omega (arith, e, r, t .part-length .ensures, s .pre .1 .1, l .loop .inv .2), omega (arith, e, r, t .part-length .ensures, field-is g, field-le g (s .pre .0)))
 
 add-to-end : tie.Need-add-to-end Inv-loop μ-loop
-add-to-end c = record { fits = omega (arith, room (c .before .before)) }
+add-to-end c = record { fits = omega (arith, room (in-loop-from-section-start2 c)) }
 
 sub-read-numbers : tie.Need-sub-read-numbers Inv-loop μ-loop
 sub-read-numbers c = omega (arith, span c)
@@ -55,36 +74,36 @@ part-read-numbers-end : tie.Need-part-read-numbers-end Inv-loop μ-loop
 part-read-numbers-end c = omega (arith, span c)
 
 mul-read-numbers : tie.Need-mul-read-numbers Inv-loop μ-loop
-mul-read-numbers c = omega (arith, room (c .before .before .before))
+mul-read-numbers c = omega (arith, room (in-loop-from-read-numbers-arg c))
 
 part-read-numbers-end-2 : tie.Need-part-read-numbers-end-2 Inv-loop μ-loop
-part-read-numbers-end-2 c = omega (arith, room (c .before .before .before))
+part-read-numbers-end-2 c = omega (arith, room (in-loop-from-read-numbers-arg c))
 
 read-numbers-requires : tie.Need-read-numbers-requires Inv-loop μ-loop
 read-numbers-requires c κs =
     let b = c .before .before in
-    let l = b .before .before .before in
+    let l = at-loop-from-section-start2 b in
     let s = l .before .before .before .before in
     let n = l .before .part-length .result in
-    (omega (arith, l .before .part-length .ensures, part-size (4 * partLength quadratic (s .args .shape)) (b .before .section-start .result) (b .section-start2 .result - b .before .section-start .result) (s .args .file .now) (omega (arith, span b)) (omega (arith, span b))), omega (arith, part-size n (l .loop .to) (l .loop .to + n - l .loop .to) (l .loop .field) (omega arith) (room (b .before .before) .0)))
+    (omega (arith, l .before .part-length .ensures, part-size (4 * partLength quadratic (s .args .shape)) (b .before .section-start .result) (b .section-start2 .result - b .before .section-start .result) (s .args .file .now) (omega (arith, span b)) (omega (arith, span b))), omega (arith, part-size n (l .loop .to) (l .loop .to + n - l .loop .to) (l .loop .field) (omega arith) (room (in-loop-from-section-start2 b) .0)))
 
 loop-again : tie.Need-loop-again Inv-loop μ-loop
 loop-again c =
     let r = c .before .before in
     let b = r .before .before .before in
-    let l = b .before .before .before in
+    let l = at-loop-from-section-start2 b in
     let t = l .before in
-    let a = t .before .before .before .args in
+    let a = entry-from-part-length t .args in
     let n = t .part-length .result in
     let next = tracer-read (a .shape) (a .file .now) (l .loop .s) (b .before .section-start .result) (b .section-start2 .result - b .before .section-start .result) (l .loop .to) n (l .loop .to + n - l .loop .to) (a .field .now) (l .loop .field) _
-    (b .before .section-start .ensures) (omega (arith, span b)) (t .part-length .ensures) (l .loop .inv .1) (omega arith) (room (b .before .before) .0) (l .loop .inv .3) (r .read-numbers .ensures) in
+    (b .before .section-start .ensures) (omega (arith, span b)) (t .part-length .ensures) (l .loop .inv .1) (omega arith) (room (in-loop-from-section-start2 b) .0) (l .loop .inv .3) (r .read-numbers .ensures) in
     (omega arith, omega (arith, row-more n (l .loop .s), l .loop .inv .1), search needs, next)
 
 returns : tie.Need-returns Inv-loop μ-loop
 returns c =
     let l = c .before in
     let t = l .before in
-    let a = t .before .before .before .args in
+    let a = entry-from-part-length t .args in
     let g = a .shape in
     let e : l .loop .s ≡ g .tracers = omega arith in
     let n : l .loop .to ≡ fieldLength quadratic g = l .loop .inv .1 ∙ (λ i. e i * t .part-length .ensures i) ∙ sym (field-is g) in

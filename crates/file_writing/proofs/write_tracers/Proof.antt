@@ -27,28 +27,41 @@ part-length-requires c κs = c .before .before .pre .0
 faces-requires : tie.Need-faces-requires Inv-loop μ-loop
 faces-requires c κs = c .before .before .before .pre .0
 
+-- places of the code, seen from later ones
+abbrev entry-from-faces : tie.After-faces Inv-loop μ-loop → tie.Start Inv-loop μ-loop
+entry-from-faces c = c .before .before .before .before
+
+abbrev entry-from-in-loop : tie.In-loop Inv-loop μ-loop → tie.Start Inv-loop μ-loop
+entry-from-in-loop c = entry-from-faces (c .before .before)
+
+abbrev part-length-from-in-loop : tie.In-loop Inv-loop μ-loop → tie.After-part-length Inv-loop μ-loop
+part-length-from-in-loop c = c .before .before .before
+
+abbrev faces-from-in-loop : tie.In-loop Inv-loop μ-loop → tie.After-faces Inv-loop μ-loop
+faces-from-in-loop c = c .before .before
+
 mul-start : tie.Need-mul-start Inv-loop μ-loop
-mul-start c = record { fits = omega (arith, c .faces .ensures, elements-le (c .before .before .before .before .args .shape) (c .before .before .before .before .pre .0)) }
+mul-start c = record { fits = omega (arith, c .faces .ensures, elements-le (entry-from-faces c .args .shape) (entry-from-faces c .pre .0)) }
 
 loop-holds : tie.Need-loop-holds Inv-loop μ-loop
 unfolding blocks overwrite
-loop-holds c = let z : 0 * c .before .part-length .result ≡ 0 = zero-mul (c .before .part-length .result) in (omega arith, sym z, omega (arith, z), refl, rw z (sym (take-append-drop (2 * c .faces .result) (c .before .before .before .before .args .file .now))))
+loop-holds c = let z : 0 * c .before .part-length .result ≡ 0 = zero-mul (c .before .part-length .result) in (omega arith, sym z, omega (arith, z), refl, rw z (sym (take-append-drop (2 * c .faces .result) (entry-from-faces c .args .file .now))))
 
 -- the tracer of a turn ends within the field, and its section within the file
 within : (c : tie.In-loop Inv-loop μ-loop)
-    → (c .before .loop .from + c .before .before .before .part-length .result ≤ fieldLength quadratic (c .before .before .before .before .before .before .args .shape)) × (c .before .loop .from + c .before .before .before .part-length .result ≤ 327680)
+    → (c .before .loop .from + part-length-from-in-loop c .part-length .result ≤ fieldLength quadratic (entry-from-in-loop c .args .shape)) × (c .before .loop .from + part-length-from-in-loop c .part-length .result ≤ 327680)
 within c =
-    let b = c .before .before .before .before .before .before in
+    let b = entry-from-in-loop c in
     let l = c .before .loop in
-    let w = c .before .before .before .part-length in
+    let w = part-length-from-in-loop c .part-length in
     ends (b .args .shape) (b .args .field .now) (b .pre .1 .1) (l .k) (l .from) (w .result) (c .loop-test .taken) (l .inv .1) (w .ensures) (b .pre .0)
 
 section-ends : (c : tie.In-loop Inv-loop μ-loop)
-    → (c .before .loop .start + 4 * c .before .before .before .part-length .result ≤ length (c .before .before .before .before .before .before .args .file .now)) × (c .before .loop .start + 4 * c .before .before .before .part-length .result ≤ 2000000)
+    → (c .before .loop .start + 4 * part-length-from-in-loop c .part-length .result ≤ length (entry-from-in-loop c .args .file .now)) × (c .before .loop .start + 4 * part-length-from-in-loop c .part-length .result ≤ 2000000)
 section-ends c =
-    let b = c .before .before .before .before .before .before in
+    let b = entry-from-in-loop c in
     let l = c .before .loop in
-    let f = c .before .before .faces in
+    let f = faces-from-in-loop c .faces in
     let w = within c in
     (omega (arith, w, l .inv .2, l .inv .1, f .ensures, b .pre .1 .0), omega (arith, w, l .inv .2, l .inv .1, f .ensures, elements-le (b .args .shape) (b .pre .0)))
 
@@ -74,8 +87,8 @@ write-numbers-requires : tie.Need-write-numbers-requires Inv-loop μ-loop
 write-numbers-requires c κs =
     let n = c .before .before in
     let l = n .before .loop in
-    let w = n .before .before .before .part-length .result in
-    let b = n .before .before .before .before .before .before in (
+    let w = part-length-from-in-loop n .part-length .result in
+    let b = entry-from-in-loop n in (
       omega (arith, part-size (4 * w) (l .start) (l .start + 4 * w - l .start) (l .file) (add-sub-cancel-left (l .start) (4 * w)) (omega (arith, section-ends n, l .inv .3))),
       omega (arith, part-size w (l .from) (l .from + w - l .from) (b .args .field .now) (add-sub-cancel-left (l .from) w) (omega (arith, within n, b .pre .1 .1))),
     )
@@ -84,10 +97,10 @@ loop-again : tie.Need-loop-again Inv-loop μ-loop
 loop-again c =
     let t = c .before .before in
     let n = t .before .before .before in
-    let b = n .before .before .before .before .before .before in
+    let b = entry-from-in-loop n in
     let l = n .before .loop in
-    let w = n .before .before .before .part-length .result in
-    let f = n .before .before .faces .result in
+    let w = part-length-from-in-loop n .part-length .result in
+    let f = faces-from-in-loop n .faces .result in
     let file₀ = b .args .file .now in
     let next : (l .k + 1) * w ≡ l .k * w + w = rw (add-one (l .k)) (suc-mul (l .k) w) in
     let moved = next-tracer (b .args .field .now) file₀ (2 * f) (l .k) w (l .from) (l .start) (l .from + w - l .from) (l .start + 4 * w - l .start) (l .file) (t .write-numbers .last .0)

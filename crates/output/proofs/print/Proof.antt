@@ -11,15 +11,19 @@ use borrow.Author.Needs.{needs}
 use Rattle.output.proofs.print.Statement.{statement}
 use Rattle.output.proofs.print.Tie as tie
 
+-- places of the code, seen from later ones
+abbrev fill-from-buffer3 : tie.After-buffer3 → tie.After-fill
+fill-from-buffer3 c = c .before .before .before .before .before .before .before
+
 -- the text is within the buffer that it was laid in
-count : (c : tie.After-buffer3) → c .before .before .before .before .before .before .before .fill .result ≤ length (c .before .before .before .before .before .before .before .fill .last .1 .0)
-count c = omega (arith, c .before .before .before .before .before .before .before .fill .ensures .0, c .before .before .before .before .before .before .buffer2 .given)
+count : (c : tie.After-buffer3) → fill-from-buffer3 c .fill .result ≤ length (fill-from-buffer3 c .fill .last .1 .0)
+count c = omega (arith, fill-from-buffer3 c .fill .ensures .0, c .before .before .before .before .before .before .buffer2 .given)
 
 slice-aggregate-put : tie.Need-slice-aggregate-put
 slice-aggregate-put c = sym (length-take-le _ _ (count c))
 
 put-requires : tie.Need-put-requires
-put-requires c κs = omega (arith, length-take-le (c .before .before .before .before .before .before .before .fill .result) (c .before .before .before .before .before .before .before .fill .last .1 .0) (count c), c .before .before .before .before .before .before .before .fill .ensures .0, c .before .before .before .before .before .before .before .before .before .before .before .before .before .before .before .pre)
+put-requires c κs = omega (arith, length-take-le (fill-from-buffer3 c .fill .result) (fill-from-buffer3 c .fill .last .1 .0) (count c), fill-from-buffer3 c .fill .ensures .0, c .before .before .before .before .before .before .before .before .before .before .before .before .before .before .before .pre)
 
 returns : tie.Need-returns
 unfolding output

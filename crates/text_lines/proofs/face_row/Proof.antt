@@ -26,30 +26,46 @@ first-face-requires c κs =
     let b = c .before in
     (b .pre .0, b .pre .1 .0)
 
+-- places of the code, seen from later ones
+abbrev entry-from-first-face : tie.After-first-face Inv-loop μ-loop → tie.Start Inv-loop μ-loop
+entry-from-first-face c = c .before .before
+
+abbrev entry-from-in-loop : tie.In-loop Inv-loop μ-loop → tie.Start Inv-loop μ-loop
+entry-from-in-loop c = entry-from-first-face (c .before .before)
+
+abbrev entry-from-face-line-arg : tie.After-face-line-arg Inv-loop μ-loop → tie.Start Inv-loop μ-loop
+entry-from-face-line-arg c = entry-from-in-loop (c .before)
+
+abbrev first-face-from-in-loop : tie.In-loop Inv-loop μ-loop → tie.After-first-face Inv-loop μ-loop
+first-face-from-in-loop c = c .before .before
+
+abbrev first-face-from-loop : tie.After-loop Inv-loop μ-loop → tie.After-first-face Inv-loop μ-loop
+first-face-from-loop c = c .before .before
+
 loop-holds : tie.Need-loop-holds Inv-loop μ-loop
 loop-holds c =
-    let a = c .before .before .args in
-    (omega arith, blocks-none 96 (lineFrom (a .tracer) (a .way) (a .report .now) (a .j) (c .first-face .result)) (a .at) (a .out .now) (omega (arith, c .before .before .pre .1 .1 .1)))
+    let a = entry-from-first-face c .args in
+    (omega arith, blocks-none 96 (lineFrom (a .tracer) (a .way) (a .report .now) (a .j) (c .first-face .result)) (a .at) (a .out .now) (omega (arith, entry-from-first-face c .pre .1 .1 .1)))
 
 -- the face of a turn is in the report
-inside : (c : tie.In-loop Inv-loop μ-loop) → c .before .before .first-face .result + c .before .loop .i < faces (c .before .before .before .before .args .shape)
+inside : (c : tie.In-loop Inv-loop μ-loop) → first-face-from-in-loop c .first-face .result + c .before .loop .i < faces (entry-from-in-loop c .args .shape)
 inside c =
-    let b = c .before .before .before .before in
+    let b = entry-from-in-loop c in
     let i = c .before .loop .i in
-    omega (arith, c .before .before .first-face .ensures, face-is (b .args .shape) (b .args .way) i (b .args .j), face-lt (b .args .shape) (b .args .way) i (b .args .j) (c .loop-test .taken) (b .pre .1 .0))
+    omega (arith, first-face-from-in-loop c .first-face .ensures, face-is (b .args .shape) (b .args .way) i (b .args .j), face-lt (b .args .shape) (b .args .way) i (b .args .j) (c .loop-test .taken) (b .pre .1 .0))
 
 add-face-line : tie.Need-add-face-line Inv-loop μ-loop
 add-face-line c =
-    let b = c .before .before .before .before .before in
+    let b = entry-from-face-line-arg c in
     record { fits = omega (arith, inside (c .before), elements-le (b .args .shape) (b .pre .0)) }
 
 mul-face-line : tie.Need-mul-face-line Inv-loop μ-loop
 mul-face-line c =
-    let b = c .before .before .before .before .before in
+    let b = entry-from-face-line-arg c in
     record { fits = omega (arith, inside (c .before), elements-le (b .args .shape) (b .pre .0)) }
 
 shared-slice-copy-out-face-line : tie.Need-shared-slice-copy-out-face-line Inv-loop μ-loop
-shared-slice-copy-out-face-line c = omega (arith, inside (c .before), c .before .before .before .before .before .pre .1 .1 .0)
+shared-slice-copy-out-face-line c = omega (arith, inside (c .before), entry-from-face-line-arg c .pre .1 .1 .0)
 
 face-line-requires : tie.Need-face-line-requires Inv-loop μ-loop
 face-line-requires c κs =
@@ -71,7 +87,7 @@ returns c =
     let l = c .before .loop in
     let a = c .before .before .before .before .args in
     let e : l .i ≡ a .shape .nx = omega arith in
-    same-bytes (row-is (a .shape) (a .tracer) (a .way) (a .report .now) (a .j) (c .before .before .first-face .result) (c .before .before .first-face .ensures)) (rw e at (l .inv .1))
+    same-bytes (row-is (a .shape) (a .tracer) (a .way) (a .report .now) (a .j) (first-face-from-loop c .first-face .result) (first-face-from-loop c .first-face .ensures)) (rw e at (l .inv .1))
 
 pub face-row-spec : {M : Type 1} → statement M
 face-row-spec =

@@ -10,14 +10,18 @@ mul-e c =
     let b = c .before in
     record { fits = omega (arith, row-lt (b .args .shape) (b .pre .0) (b .args .j) (b .pre .1), elements-le (b .args .shape) (b .pre .0)) }
 
+-- places of the code, seen from later ones
+abbrev entry-from-struct-known2 : tie.After-struct-known2 → tie.Start
+entry-from-struct-known2 c = c .before .before .before .before
+
 mul-result : tie.Need-mul-result
 mul-result c =
-    let b = c .before .before .before .before in
+    let b = entry-from-struct-known2 c in
     record { fits = omega (arith, elements-le (b .args .shape) (b .pre .0)) }
 
 add-result : tie.Need-add-result
 add-result c =
-    let b = c .before .before .before .before in
+    let b = entry-from-struct-known2 c in
     record { fits = omega (arith, row-lt (b .args .shape) (b .pre .0) (b .args .j) (b .pre .1), elements-le (b .args .shape) (b .pre .0)) }
 
 returns : tie.Need-returns

@@ -25,11 +25,30 @@ loop-holds : tie.Need-loop-holds Inv-loop μ-loop
 unfolding all
 loop-holds c = (omega arith, refl)
 
+-- places of the code, seen from later ones
+abbrev entry-from-at-loop : tie.At-loop Inv-loop μ-loop → tie.Start Inv-loop μ-loop
+entry-from-at-loop c = c .before .before
+
+abbrev entry-from-section-start2 : tie.After-section-start2 Inv-loop μ-loop → tie.Start Inv-loop μ-loop
+entry-from-section-start2 c = entry-from-at-loop (c .before .before .before)
+
+abbrev entry-from-tracer-sound : tie.After-tracer-sound Inv-loop μ-loop → tie.Start Inv-loop μ-loop
+entry-from-tracer-sound c = entry-from-section-start2 (c .before .before)
+
+abbrev at-loop-from-section-start2 : tie.After-section-start2 Inv-loop μ-loop → tie.At-loop Inv-loop μ-loop
+at-loop-from-section-start2 c = c .before .before .before
+
+abbrev at-loop-from-tracer-sound : tie.After-tracer-sound Inv-loop μ-loop → tie.At-loop Inv-loop μ-loop
+at-loop-from-tracer-sound c = at-loop-from-section-start2 (c .before .before)
+
+abbrev in-loop-from-section-start2 : tie.After-section-start2 Inv-loop μ-loop → tie.In-loop Inv-loop μ-loop
+in-loop-from-section-start2 c = c .before .before
+
 -- the section of a turn
-span : (c : tie.After-section-start2 Inv-loop μ-loop) → (c .section-start2 .result ≡ c .before .section-start .result + 4 * partLength quadratic (c .before .before .before .before .before .args .shape)) × (c .section-start2 .result ≤ length (c .before .before .before .before .before .args .file .now))
+span : (c : tie.After-section-start2 Inv-loop μ-loop) → (c .section-start2 .result ≡ c .before .section-start .result + 4 * partLength quadratic (entry-from-section-start2 c .args .shape)) × (c .section-start2 .result ≤ length (entry-from-section-start2 c .args .file .now))
 span c =
-    let s = c .before .before .before .before .before in
-    let t = tracer-span (s .args .shape) (c .before .before .before .loop .s) (c .before .section-start .result) (c .section-start2 .result) (c .before .before .loop-test .taken) (c .before .section-start .ensures) (c .section-start2 .ensures) in
+    let s = entry-from-section-start2 c in
+    let t = tracer-span (s .args .shape) (at-loop-from-section-start2 c .loop .s) (c .before .section-start .result) (c .section-start2 .result) (in-loop-from-section-start2 c .loop-test .taken) (c .before .section-start .ensures) (c .section-start2 .ensures) in
     (t .0, omega (arith, t .1, s .pre .1))
 
 sub-tracer-sound : tie.Need-sub-tracer-sound Inv-loop μ-loop
@@ -44,30 +63,30 @@ part-tracer-sound-end c = omega (arith, span c)
 tracer-sound-requires : tie.Need-tracer-sound-requires Inv-loop μ-loop
 tracer-sound-requires c κs =
     let b = c .before in
-    let s = b .before .before .before .before .before in
+    let s = entry-from-section-start2 b in
     (s .pre .0, part-size (4 * partLength quadratic (s .args .shape)) (b .before .section-start .result) (b .section-start2 .result - b .before .section-start .result) (s .args .file .now) (omega (arith, span b)) (omega (arith, span b)))
 
 -- the test of a turn is of the tracer's part of the field
-tested : (c : tie.After-tracer-sound Inv-loop μ-loop) → c .tracer-sound .result ≡ sound quadratic (c .before .before .before .before .before .before .before .args .shape) (part quadratic (c .before .before .before .before .before .before .before .args .shape) (c .before .before .before .before .before .loop .s) (fileField quadratic (c .before .before .before .before .before .before .before .args .shape) (c .before .before .before .before .before .before .before .args .file .now)))
+tested : (c : tie.After-tracer-sound Inv-loop μ-loop) → c .tracer-sound .result ≡ sound quadratic (entry-from-tracer-sound c .args .shape) (part quadratic (entry-from-tracer-sound c .args .shape) (at-loop-from-tracer-sound c .loop .s) (fileField quadratic (entry-from-tracer-sound c .args .shape) (entry-from-tracer-sound c .args .file .now)))
 tested c =
     let b = c .before .before in
-    let l = b .before .before .before in
-    let a = l .before .before .args in
-    c .tracer-sound .ensures ∙ ap (sound quadratic (a .shape)) (section-part (a .shape) (a .file .now) (l .loop .s) (b .before .section-start .result) (b .section-start2 .result - b .before .section-start .result) (b .before .before .loop-test .taken) (b .before .section-start .ensures) (omega (arith, span b)))
+    let l = at-loop-from-section-start2 b in
+    let a = entry-from-at-loop l .args in
+    c .tracer-sound .ensures ∙ ap (sound quadratic (a .shape)) (section-part (a .shape) (a .file .now) (l .loop .s) (b .before .section-start .result) (b .section-start2 .result - b .before .section-start .result) (in-loop-from-section-start2 b .loop-test .taken) (b .before .section-start .ensures) (omega (arith, span b)))
 
 returns : tie.Need-returns Inv-loop μ-loop
 unfolding fieldSound
 returns c =
     let t = c .before in
-    let l = t .before .before .before .before .before in
-    let a = l .before .before .args in
+    let l = at-loop-from-tracer-sound t in
+    let a = entry-from-at-loop l .args in
     sym (all-fails (a .shape .tracers) (λ t. sound quadratic (a .shape) (part quadratic (a .shape) t (fileField quadratic (a .shape) (a .file .now)))) (l .loop .s) (omega arith) (sym (tested t) ∙ not-true _ (c .if1 .taken)))
 
 loop-again : tie.Need-loop-again Inv-loop μ-loop
 loop-again c =
     let t = c .before in
-    let l = t .before .before .before .before .before in
-    let a = l .before .before .args in
+    let l = at-loop-from-tracer-sound t in
+    let a = entry-from-at-loop l .args in
     (omega arith, all-more (l .loop .s) (λ t. sound quadratic (a .shape) (part quadratic (a .shape) t (fileField quadratic (a .shape) (a .file .now)))) (l .loop .inv .1) (sym (tested t) ∙ not-false _ (c .if1 .left)))
 
 returns-2 : tie.Need-returns-2 Inv-loop μ-loop

@@ -17,14 +17,18 @@ returns c = tail-short (c .before .before .args .file .now) (c .if1 .taken)
 returns-2 : tie.Need-returns-2
 returns-2 c = tail-unmarked (c .before .before .before .before .args .file .now) (c .before .before .if1 .left) (sym (c .before .is-mark .ensures) ∙ not-true _ (c .if2 .taken))
 
+-- places of the code, seen from later ones
+abbrev entry-from-else2 : tie.Else2 → tie.Start
+entry-from-else2 c = c .before .before .before .before
+
 -- the mark was found
-marked : (c : tie.Else2) → all 4 (λ i. eqb (byteAt (c .before .before .before .before .args .file .now) (length (c .before .before .before .before .args .file .now) - 4 + i)) (getD mark i 0)) ≡ true
+marked : (c : tie.Else2) → all 4 (λ i. eqb (byteAt (entry-from-else2 c .args .file .now) (length (entry-from-else2 c .args .file .now) - 4 + i)) (getD mark i 0)) ≡ true
 marked c = sym (c .before .is-mark .ensures) ∙ not-false _ (c .if2 .left)
 
 returns-3 : tie.Need-returns-3
 returns-3 c =
     let e = c .before .before in
-    tail-fourth (e .before .before .before .before .args .file .now) (e .before .before .if1 .left) (marked e) (c .if3 .taken)
+    tail-fourth (entry-from-else2 e .args .file .now) (e .before .before .if1 .left) (marked e) (c .if3 .taken)
 
 returns-4 : tie.Need-returns-4
 unfolding tailShape

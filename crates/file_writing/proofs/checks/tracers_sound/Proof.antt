@@ -26,13 +26,26 @@ loop-holds : tie.Need-loop-holds Inv-loop μ-loop
 unfolding all
 loop-holds c = (omega arith, sym (zero-mul _), refl)
 
+-- places of the code, seen from later ones
+abbrev entry-from-in-loop : tie.In-loop Inv-loop μ-loop → tie.Start Inv-loop μ-loop
+entry-from-in-loop c = c .before .before .before .before
+
+abbrev part-length-from-in-loop : tie.In-loop Inv-loop μ-loop → tie.After-part-length Inv-loop μ-loop
+part-length-from-in-loop c = c .before .before
+
+abbrev part-length-from-tracer-total-arg : tie.After-tracer-total-arg Inv-loop μ-loop → tie.After-part-length Inv-loop μ-loop
+part-length-from-tracer-total-arg c = part-length-from-in-loop (c .before)
+
+abbrev in-loop-from-tracer-total : tie.After-tracer-total Inv-loop μ-loop → tie.In-loop Inv-loop μ-loop
+in-loop-from-tracer-total c = c .before .before
+
 -- the tracer of a turn ends within the field
 within : (c : tie.In-loop Inv-loop μ-loop)
-    → (c .before .loop .start + c .before .before .part-length .result ≤ fieldLength quadratic (c .before .before .before .before .args .shape)) × (c .before .loop .start + c .before .before .part-length .result ≤ 327680)
+    → (c .before .loop .start + part-length-from-in-loop c .part-length .result ≤ fieldLength quadratic (entry-from-in-loop c .args .shape)) × (c .before .loop .start + part-length-from-in-loop c .part-length .result ≤ 327680)
 within c =
-    let b = c .before .before .before .before in
+    let b = entry-from-in-loop c in
     let l = c .before .loop in
-    ends (b .args .shape) (b .args .field .now) (b .pre .1) (l .s) (l .start) (c .before .before .part-length .result) (c .loop-test .taken) (l .inv .1) (c .before .before .part-length .ensures) (b .pre .0)
+    ends (b .args .shape) (b .args .field .now) (b .pre .1) (l .s) (l .start) (part-length-from-in-loop c .part-length .result) (c .loop-test .taken) (l .inv .1) (part-length-from-in-loop c .part-length .ensures) (b .pre .0)
 
 add-end : tie.Need-add-end Inv-loop μ-loop
 add-end c = record { fits = omega (arith, within c) }
@@ -41,22 +54,22 @@ mul-tracer-total : tie.Need-mul-tracer-total Inv-loop μ-loop
 mul-tracer-total c = omega (arith, within c)
 
 part-tracer-total-end : tie.Need-part-tracer-total-end Inv-loop μ-loop
-part-tracer-total-end c = omega (arith, within c, c .before .before .before .before .pre .1)
+part-tracer-total-end c = omega (arith, within c, entry-from-in-loop c .pre .1)
 
 tracer-total-requires : tie.Need-tracer-total-requires Inv-loop μ-loop
 tracer-total-requires c κs =
     let b = c .before .before .before .before .before in
     let l = c .before .before .loop in
-    (b .pre .0, lent-length (b .args .shape) (b .args .field .now) (b .pre .1) (l .s) (l .start) (c .before .before .before .part-length .result) (c .before .loop-test .taken) (l .inv .1) (c .before .before .before .part-length .ensures))
+    (b .pre .0, lent-length (b .args .shape) (b .args .field .now) (b .pre .1) (l .s) (l .start) (part-length-from-tracer-total-arg c .part-length .result) (c .before .loop-test .taken) (l .inv .1) (part-length-from-tracer-total-arg c .part-length .ensures))
 
 returns : tie.Need-returns Inv-loop μ-loop
 unfolding fieldSound
 returns c =
     let t = c .before .before in
-    let n = t .before .before in
-    let b = n .before .before .before .before in
+    let n = in-loop-from-tracer-total t in
+    let b = entry-from-in-loop n in
     let l = n .before .loop in
-    let w = n .before .before .part-length in
+    let w = part-length-from-in-loop n .part-length in
     let g = b .args .shape in
     let f = b .args .field .now in
     sym (all-fails (g .tracers) (λ k. sound quadratic g (part quadratic g k f)) (l .s) (n .loop-test .taken)
@@ -65,10 +78,10 @@ returns c =
 loop-again : tie.Need-loop-again Inv-loop μ-loop
 loop-again c =
     let t = c .before .before in
-    let n = t .before .before in
-    let b = n .before .before .before .before in
+    let n = in-loop-from-tracer-total t in
+    let b = entry-from-in-loop n in
     let l = n .before .loop in
-    let w = n .before .before .part-length in
+    let w = part-length-from-in-loop n .part-length in
     let g = b .args .shape in
     let f = b .args .field .now in
     let next : (l .s + 1) * w .result ≡ l .s * w .result + w .result = rw (add-one (l .s)) (suc-mul (l .s) (w .result)) in (
