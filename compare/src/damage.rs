@@ -113,14 +113,18 @@ fn flips(rng: &mut Rng, file: &mut [u8]) {
 
 fn length_damage(rng: &mut Rng, file: &mut Vec<u8>) {
     let cut = 1 + rng.index(file.len());
-    match rng.below(8) {
+    match rng.below(10) {
         0 => file.truncate(file.len() - 1),
         1 => file.truncate(file.len() - cut),
         2 => drop(file.drain(..cut)),
         3 => drop(file.drain(..1)),
-        4 => drop(file.drain(..file.len() - rng.pick(&[1, 4, 11, 12, 13]))),
-        5 => file.insert(rng.index(file.len()), 0),
-        6 => file.push(0),
+        4 => drop(file.drain(..file.len() - rng.pick(&[1, 4, 11, 13]))),
+        // the tail alone
+        5 => drop(file.drain(..file.len() - TAIL)),
+        6 => file.insert(rng.index(file.len()), 0),
+        7 => file.push(0),
+        // too long, with each part in its place from its own end of the file
+        8 => file.insert(file.len() - TAIL, rng.draw() as u8),
         _ => {
             let mut longer = files::bytes(rng, cut);
             longer.append(file);
