@@ -93,12 +93,13 @@ fn table_damage(rng: &mut Rng, file: &mut [u8], shape: Shape) {
 
 fn wrong_offset(rng: &mut Rng, file: &mut [u8], at: usize, right: usize) {
     let right = right as u32;
-    let wrong = match rng.below(6) {
-        0 => right.wrapping_add(1),
-        1 => right.wrapping_sub(4),
-        2 => right.swap_bytes(),
-        3 => rng.pick(&[0, u32::MAX, 1 << 31]),
-        4 => file.len() as u32,
+    let wrong = match rng.below(7) {
+        // some the same in the lower bytes
+        0 | 1 => right.wrapping_add(1 << rng.pick(&[0, 8, 16, 24])),
+        2 => right.wrapping_sub(4),
+        3 => right.swap_bytes(),
+        4 => rng.pick(&[0, u32::MAX, 1 << 31]),
+        5 => file.len() as u32,
         _ => right ^ 1 << rng.below(32),
     };
     put(file, at, &wrong.to_le_bytes());

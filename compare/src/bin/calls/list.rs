@@ -94,7 +94,7 @@ impl List {
         let mut call = Call { grid, operation };
         if expected == Expected::Nothing && rng.once_in(4) {
             self.sound = Some((b.field.space().to_vec(), b.wind.space().to_vec()));
-            for _ in 0..rng.pick(&[1, 1, 1, 2, 3]) {
+            for _ in 0..rng.pick(&[1, 1, 2, 2, 3]) {
                 spoil(rng, &mut call, b, shape);
             }
         }
