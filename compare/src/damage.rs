@@ -14,9 +14,9 @@ pub fn damage(rng: &mut Rng, file: &mut Vec<u8>, shape: Shape) {
         content_damage(rng, file, shape);
     }
     match rng.below(10) {
-        0..=2 => content_damage(rng, file, shape),
-        3..=5 => tail_damage(rng, file, shape),
-        6 => table_damage(rng, file, shape),
+        0 | 1 => content_damage(rng, file, shape),
+        2..=4 => tail_damage(rng, file),
+        5 | 6 => table_damage(rng, file, shape),
         7 => flips(rng, file),
         _ => length_damage(rng, file),
     }
@@ -61,9 +61,9 @@ fn near_limit(rng: &mut Rng, file: &mut [u8], shape: Shape) {
     }
 }
 
-fn tail_damage(rng: &mut Rng, file: &mut [u8], shape: Shape) {
+fn tail_damage(rng: &mut Rng, file: &mut [u8]) {
     let tail = file.len() - TAIL;
-    match rng.below(8) {
+    match rng.below(7) {
         0..=2 => {
             let at = rng.index(3);
             let beyond = if at == 2 { 9 } else { 65 };
@@ -73,7 +73,6 @@ fn tail_damage(rng: &mut Rng, file: &mut [u8], shape: Shape) {
         // the same length, and still sound, where only the two sides change places
         4 => file.swap(tail, tail + 1),
         5 => file[tail + 3] = rng.pick(&[1, 2, 128, 255]),
-        6 => wrong_offset(rng, file, tail + 4, shape.table_offset()),
         _ => match rng.below(3) {
             0 => file[tail + 8 + rng.index(4)] ^= 1 << rng.below(8),
             1 => put(file, tail + 8, &rng.pick(&[*b"plum", *b"MULP", *b"PLU2"])),
@@ -82,7 +81,12 @@ fn tail_damage(rng: &mut Rng, file: &mut [u8], shape: Shape) {
     }
 }
 
+/// An offset of the table, or the table's own in the tail.
 fn table_damage(rng: &mut Rng, file: &mut [u8], shape: Shape) {
+    let tail = file.len() - TAIL;
+    if rng.once_in(2) {
+        return wrong_offset(rng, file, tail + 4, shape.table_offset());
+    }
     let entry = rng.index(shape.k + 1);
     let right = match entry {
         0 => 0,
