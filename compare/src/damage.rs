@@ -14,9 +14,9 @@ pub fn damage(rng: &mut Rng, file: &mut Vec<u8>, shape: Shape) {
         content_damage(rng, file, shape);
     }
     match rng.below(10) {
-        0..=2 => content_damage(rng, file, shape),
-        3..=5 => tail_damage(rng, file, shape),
-        6 => table_damage(rng, file, shape),
+        0 | 1 => content_damage(rng, file, shape),
+        2..=4 => tail_damage(rng, file),
+        5 | 6 => table_damage(rng, file, shape),
         7 => flips(rng, file),
         _ => length_damage(rng, file),
     }
@@ -61,9 +61,9 @@ fn near_limit(rng: &mut Rng, file: &mut [u8], shape: Shape) {
     }
 }
 
-fn tail_damage(rng: &mut Rng, file: &mut [u8], shape: Shape) {
+fn tail_damage(rng: &mut Rng, file: &mut [u8]) {
     let tail = file.len() - TAIL;
-    match rng.below(8) {
+    match rng.below(7) {
         0..=2 => {
             let at = rng.index(3);
             let beyond = if at == 2 { 9 } else { 65 };
@@ -73,7 +73,6 @@ fn tail_damage(rng: &mut Rng, file: &mut [u8], shape: Shape) {
         // the same length, and still sound, where only the two sides change places
         4 => file.swap(tail, tail + 1),
         5 => file[tail + 3] = rng.pick(&[1, 2, 128, 255]),
-        6 => wrong_offset(rng, file, tail + 4, shape.table_offset()),
         _ => match rng.below(3) {
             0 => file[tail + 8 + rng.index(4)] ^= 1 << rng.below(8),
             1 => put(file, tail + 8, &rng.pick(&[*b"plum", *b"MULP", *b"PLU2"])),
@@ -82,7 +81,12 @@ fn tail_damage(rng: &mut Rng, file: &mut [u8], shape: Shape) {
     }
 }
 
+/// An offset of the table, or the table's own in the tail.
 fn table_damage(rng: &mut Rng, file: &mut [u8], shape: Shape) {
+    let tail = file.len() - TAIL;
+    if rng.once_in(2) {
+        return wrong_offset(rng, file, tail + 4, shape.table_offset());
+    }
     let entry = rng.index(shape.k + 1);
     let right = match entry {
         0 => 0,
@@ -93,12 +97,13 @@ fn table_damage(rng: &mut Rng, file: &mut [u8], shape: Shape) {
 
 fn wrong_offset(rng: &mut Rng, file: &mut [u8], at: usize, right: usize) {
     let right = right as u32;
-    let wrong = match rng.below(6) {
-        0 => right.wrapping_add(1),
-        1 => right.wrapping_sub(4),
-        2 => right.swap_bytes(),
-        3 => rng.pick(&[0, u32::MAX, 1 << 31]),
-        4 => file.len() as u32,
+    let wrong = match rng.below(7) {
+        // some the same in the lower bytes
+        0 | 1 => right.wrapping_add(1 << rng.pick(&[0, 8, 16, 24])),
+        2 => right.wrapping_sub(4),
+        3 => right.swap_bytes(),
+        4 => rng.pick(&[0, u32::MAX, 1 << 31]),
+        5 => file.len() as u32,
         _ => right ^ 1 << rng.below(32),
     };
     put(file, at, &wrong.to_le_bytes());
@@ -113,14 +118,18 @@ fn flips(rng: &mut Rng, file: &mut [u8]) {
 
 fn length_damage(rng: &mut Rng, file: &mut Vec<u8>) {
     let cut = 1 + rng.index(file.len());
-    match rng.below(8) {
+    match rng.below(10) {
         0 => file.truncate(file.len() - 1),
         1 => file.truncate(file.len() - cut),
         2 => drop(file.drain(..cut)),
         3 => drop(file.drain(..1)),
-        4 => drop(file.drain(..file.len() - rng.pick(&[1, 4, 11, 12, 13]))),
-        5 => file.insert(rng.index(file.len()), 0),
-        6 => file.push(0),
+        4 => drop(file.drain(..file.len() - rng.pick(&[1, 4, 11, 13]))),
+        // the tail alone
+        5 => drop(file.drain(..file.len() - TAIL)),
+        6 => file.insert(rng.index(file.len()), 0),
+        7 => file.push(0),
+        // too long, with each part in its place from its own end of the file
+        8 => file.insert(file.len() - TAIL, rng.draw() as u8),
         _ => {
             let mut longer = files::bytes(rng, cut);
             longer.append(file);

@@ -1,9 +1,11 @@
 //! Random lists of calls: conservation, the ledger, struck calls.
 
-use reference::checks::{element_mass, weighted_numbers};
-use reference::flux::face_elements;
+mod shared;
+
+use reference::checks::element_mass;
 use reference::lists::{Answer, Call, State};
 use reference::{generator, Shape};
+use shared::{smoke_of, Ledger};
 
 const SHAPES: [(usize, usize, usize); 8] = [
     (1, 1, 1),
@@ -46,56 +48,10 @@ fn steps_conserve_the_total() {
     assert!(steps > 4000);
 }
 
-/// The ledger of document 01, fed with arguments and answers alone.
-struct Ledger {
-    shape: Shape,
-    held: Vec<i64>,
-}
-
-impl Ledger {
-    fn at(&self, smoke: usize, i: usize, j: usize) -> usize {
-        smoke * self.shape.elements() + self.shape.element(i, j)
-    }
-
-    fn feed(&mut self, call: &Call, answer: &Answer) {
-        if let Answer::Refused(_) = answer {
-            return;
-        }
-        match (call, answer) {
-            (Call::Load(smoke, numbers), _) => {
-                let start = self.at(*smoke, 0, 0);
-                for at in 0..self.shape.elements() {
-                    let nodes = &numbers[9 * at..9 * at + 9];
-                    self.held[start + at] = weighted_numbers(nodes) as i64;
-                }
-            }
-            (Call::Emission(smoke, i, j, q), _) => {
-                let at = self.at(*smoke, *i, *j);
-                self.held[at] += *q as i64;
-            }
-            (Call::Withdrawal(smoke, i, j, q), _) => {
-                let at = self.at(*smoke, *i, *j);
-                self.held[at] -= *q as i64;
-            }
-            (Call::Step(smoke), Answer::Stepped(report)) => {
-                let start = self.at(*smoke, 0, 0);
-                for (face, &moved) in report.iter().enumerate() {
-                    let (low, high) = face_elements(self.shape, face);
-                    self.held[start + low] -= i64::from(moved);
-                    self.held[start + high] += i64::from(moved);
-                }
-            }
-            _ => {}
-        }
-    }
-}
-
 #[test]
 fn the_ledger_holds_every_mass() {
     for (seed, &(nx, ny, k)) in SHAPES.iter().cycle().take(80).enumerate() {
-        let shape = Shape { nx, ny, k };
-        let held = vec![0; k * nx * ny];
-        let mut ledger = Ledger { shape, held };
+        let mut ledger = Ledger::new(Shape { nx, ny, k });
         let mut state = State::new(nx, ny, k);
         for call in calls(1000 + seed as u64, (nx, ny, k)) {
             let answer = state.run(&call);
@@ -106,14 +62,6 @@ fn the_ledger_holds_every_mass() {
                 .zip(masses(&state))
                 .all(|(&a, b)| a == b as i64));
         }
-    }
-}
-
-fn smoke_of(call: &Call) -> Option<usize> {
-    match call {
-        Call::Wind(..) => None,
-        Call::Load(s, _) | Call::Step(s) | Call::Total(s) | Call::Mass(s, _, _) => Some(*s),
-        Call::Emission(s, _, _, _) | Call::Withdrawal(s, _, _, _) => Some(*s),
     }
 }
 

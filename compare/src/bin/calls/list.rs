@@ -92,9 +92,14 @@ impl List {
         lend(rng, b, shape);
         let grid = grid_of(shape);
         let mut call = Call { grid, operation };
-        if expected == Expected::Nothing && rng.once_in(4) {
+        // a file has many parts that may be wrong
+        let once_in = match operation {
+            Operation::Read => 2,
+            _ => 4,
+        };
+        if expected == Expected::Nothing && rng.once_in(once_in) {
             self.sound = Some((b.field.space().to_vec(), b.wind.space().to_vec()));
-            for _ in 0..rng.pick(&[1, 1, 1, 2, 3]) {
+            for _ in 0..rng.pick(&[1, 1, 2, 2, 3]) {
                 spoil(rng, &mut call, b, shape);
             }
         }
