@@ -5,13 +5,22 @@ ghost use lib.ListN.{length, take};
 ghost use Rattle.io.specs.Counts.{Counts};
 ghost use Rattle.whole.specs.Table.{overwrite};
 ghost use Rattle.rules.specs.Field.{faces, Admitted};
-ghost use Rattle.rules.specs.Program.{stepped, upTo, printed, output};
+ghost use Rattle.rules.specs.Program.{reportLent, workLent, stepped, upTo, printed, output};
 ghost use Rattle.output.specs.AddedLines.{tracerRoom, AddedOrRefused};
 use rules::FileRead;
 use rules::Outcome;
 use rules::Reading;
 use rules::Refusal;
 use rules::Shape;
+use rules::element::NUMBERS;
+
+// "It lends buffers for exactly 128 elements and eight smokes".
+const ELEMENTS: usize = 128;
+
+const SMOKES: usize = 8;
+
+// No text is longer.
+const TEXT: usize = 200_000;
 
 // Lines in the buffer up to a place, or why there are none.
 pub(crate) enum Lines {
@@ -31,9 +40,9 @@ fn tracer(
     at: usize,
 ) -> Lines
     requires { ⌜ Admitted shape ⌝ }
-    requires { ⌜ length (now report) ≡ 256 ⌝ }
-    requires { ⌜ length (now work) ≡ 8192 ⌝ }
-    requires { ⌜ faces shape ≤ 256 ⌝ }
+    requires { ⌜ length (now report) ≡ reportLent ⌝ }
+    requires { ⌜ length (now work) ≡ workLent ⌝ }
+    requires { ⌜ faces shape ≤ reportLent ⌝ }
     requires { ⌜ at + tracerRoom shape ≤ length (now out) ⌝ }
     ensures { λ r. ⌜ AddedOrRefused (tracerRoom shape) at (stepped shape (now (wind .entry)) tracer (now (field .entry))) (now (field .exit)) (now (out .entry)) (now (out .exit)) r ⌝ }
 {
@@ -67,9 +76,9 @@ fn tracers(
     shape: Shape,
 ) -> Lines
     requires { ⌜ Admitted shape ⌝ }
-    requires { ⌜ length (now report) ≡ 256 ⌝ }
-    requires { ⌜ length (now work) ≡ 8192 ⌝ }
-    requires { ⌜ faces shape ≤ 256 ⌝ }
+    requires { ⌜ length (now report) ≡ reportLent ⌝ }
+    requires { ⌜ length (now work) ≡ workLent ⌝ }
+    requires { ⌜ faces shape ≤ reportLent ⌝ }
     requires { ⌜ 68 + shape .tracers * tracerRoom shape ≤ length (now out) ⌝ }
     ensures { λ r. ⌜ AddedOrRefused (68 + shape .tracers * tracerRoom shape) 0 (upTo shape (now (wind .entry)) (shape .tracers) (now (field .entry))) (now (field .exit)) (now (out .entry)) (now (out .exit)) r ⌝ }
 {
@@ -94,9 +103,9 @@ fn fill(
     report: &mut [i32],
     work: &mut [i64],
 ) -> usize
-    requires { ⌜ length (now wind) ≡ 256 ⌝ }
-    requires { ⌜ length (now report) ≡ 256 ⌝ }
-    requires { ⌜ length (now work) ≡ 8192 ⌝ }
+    requires { ⌜ length (now wind) ≡ reportLent ⌝ }
+    requires { ⌜ length (now report) ≡ reportLent ⌝ }
+    requires { ⌜ length (now work) ≡ workLent ⌝ }
     requires { ⌜ length (now out) ≡ 200000 ⌝ }
     ensures { λ r. ⌜ r ≤ 200000 ⌝ }
     ensures { λ r. ⌜ take r (now (out .exit)) ≡ printed (now (file .entry)) (now (field .entry)) (now (wind .entry)) ⌝ }
@@ -125,11 +134,11 @@ pub fn print(file: &[u8], out: &mut [u8]) -> usize
     ensures { λ r. ⌜ Counts r (now (out .exit)) ⌝ }
     ensures { λ _. ⌜ now (out .exit) ≡ overwrite 0 (output (now (file .entry))) (now (out .entry)) ⌝ }
 {
-    let mut buffer = [0u8; 200000];
-    let mut field = [0u32; 10240];
-    let mut wind = [0i16; 256];
-    let mut report = [0i32; 256];
-    let mut work = [0i64; 8192];
+    let mut buffer = [0u8; TEXT];
+    let mut field = [0u32; SMOKES * ELEMENTS * NUMBERS];
+    let mut wind = [0i16; 2 * ELEMENTS];
+    let mut report = [0i32; 2 * ELEMENTS];
+    let mut work = [0i64; 64 * ELEMENTS];
     let n = fill(
         file,
         &mut buffer,

@@ -10,7 +10,7 @@ use Rattle.rules.specs.declared.Shape.{Shape}
 use Rattle.rules.specs.declared.Way.{Way}
 use Rattle.rules.specs.declared.Way.the-variants.{East, North}
 use Rattle.rules.specs.Answers.{Answer, accepted, refused}
-use Rattle.rules.specs.Field.{quadratic}
+use Rattle.rules.specs.Field.{quadratic, elementLength}
 use Rattle.rules.specs.Grid.{faceIndex}
 use Rattle.rules.specs.Calls.{step, lengthsLent, call, totalReading}
 use Rattle.rules.specs.FieldFile.{readReply, readField, readWind}
@@ -136,5 +136,5 @@ printed file field wind = cond (ltb 65536 (length file)) (refusedLine 3)
 -- "It lends buffers for exactly 128 elements and eight smokes, so a larger grid gets 4": ten numbers an element and two winds, all
 -- zero. Check 4 of file reading sees a larger grid by its winds
 unfoldable pub output : List ℕ → List ℕ
-unfolding printed
-output file = printed file (replicate (8 * (128 * 10)) 0) (replicate (2 * 128) (pos 0))
+unfolding printed elementLength
+output file = printed file (replicate (8 * (128 * elementLength quadratic)) 0) (replicate (2 * 128) (pos 0))

@@ -5,6 +5,7 @@ use native.Mathlib.Omega.{arith}
 use lib.ListN.{length}
 use lib.Seq.{length-take-le}
 use Rattle.rules.specs.Program.{output}
+use Rattle.rules.specs.Field.{elementLength, quadratic}
 use Rattle.text.proofs.AddedLaws.{same-bytes}
 use Rattle.output.proofs.TextLaws.{end-within}
 use borrow.Author.Needs.{needs}
@@ -26,7 +27,7 @@ put-requires : tie.Need-put-requires
 put-requires c κs = omega (arith, length-take-le (fill-from-buffer3 c .fill .result) (fill-from-buffer3 c .fill .last .1 .0) (count c), fill-from-buffer3 c .fill .ensures .0, c .before .before .before .before .before .before .before .before .before .before .before .before .before .before .before .pre)
 
 returns : tie.Need-returns
-unfolding output
+unfolding output elementLength quadratic
 returns c =
     let a = same-bytes (c .before .before .before .before .before .before .before .before .before .before .fill .ensures .1) (c .before .before .put .ensures) in
     let few = end-within a in
