@@ -1,3 +1,5 @@
+-- Emission: each refusal is the definition's by what the reading of the total says; an accepted one writes the element in place, which is
+-- the tracer's part with that element replaced.
 use mathlib.Core.Path.{_≡_, sym, ap, _∙_}
 use mathlib.Core.Bool.{true}
 use Prim.Native.Nat.{_≤_, _+_, _-_}

@@ -1,3 +1,4 @@
+-- Fresh: by the tests before it each way out is one of the definition's answers, and zeros over both fronts are its field and wind.
 use mathlib.Core.Path.{_≡_, sym, ap, _∙_}
 use mathlib.Core.Bool.{true}
 use Prim.Native.Nat.{_≤_}

@@ -1,3 +1,5 @@
+-- Load: each test is a check of the definition, in its order; the part that is lent, filled and given back is the tracer's part after the
+-- load.
 use mathlib.Core.Path.{_≡_, sym, ap, _∙_}
 use mathlib.Core.Bool.{true}
 use Prim.Native.Nat.{_+_, _-_, _*_, _≤_}

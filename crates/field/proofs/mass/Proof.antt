@@ -1,3 +1,5 @@
+-- The reading of a mass: the refusals of the total's reading, then the grid's test, then the lent element's mass, which is the element's
+-- in its part.
 use mathlib.Core.Path.{_≡_, sym, ap, _∙_}
 use mathlib.Core.Bool.{true}
 use Prim.Native.Nat.{_≤_, _+_, _-_}

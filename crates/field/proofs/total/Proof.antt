@@ -1,3 +1,4 @@
+-- The reading of a total: the tests make the definition's first checks, and the search of the lent part makes check 6 and the number.
 use mathlib.Core.Path.{_≡_, sym, ap, _∙_}
 use mathlib.Core.Bool.{true}
 use Prim.Native.Nat.{_≤_, _+_, _-_}

@@ -1,3 +1,4 @@
+-- Wind: each test is a check of the definition, in its order, and one store is the winds after it.
 use mathlib.Core.Path.{_≡_, sym, ap, _∙_}
 use mathlib.Core.Bool.{true}
 use Prim.Native.Nat.{_≤_, _<_}

@@ -1,3 +1,5 @@
+-- Withdrawal: each refusal is the definition's by what the reading of the mass says; an accepted one writes the element in place, as an
+-- emission does.
 use mathlib.Core.Path.{_≡_, sym, ap, _∙_}
 use Prim.Native.Nat.{_≤_, _+_, _-_}
 use borrow.Author.Needs.{needs}

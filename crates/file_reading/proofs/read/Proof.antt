@@ -1,3 +1,4 @@
+-- Reading: the tail's answer and then the checks make the definition's answer; what is read after them is the file's wind and field.
 use mathlib.Core.Path.{_≡_, sym, ap, _∙_}
 use borrow.Author.Needs.{needs}
 use lib.ListN.{length}

@@ -1,3 +1,4 @@
+-- The tracers are read one after the other: after s of them the front of the field is the first s parts of the file's field.
 use mathlib.Core.Path.{_≡_, refl, sym, ap, _∙_}
 use mathlib.Core.List.{_++_}
 use Prim.Native.Nat.{_+_, _-_, _*_, _≤_}

@@ -1,3 +1,4 @@
+-- The wind section lent alone holds the file's winds.
 use mathlib.Core.Path.{_≡_, ap, _∙_}
 use Prim.Native.Nat.{_-_, _*_, _≤_}
 use native.Mathlib.Omega.{arith}

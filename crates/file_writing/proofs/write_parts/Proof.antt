@@ -1,3 +1,5 @@
+-- Winds, tracers, table and tail, each lent as its own part of the file and written, one after the other, are the file of the field and
+-- the wind.
 use mathlib.Core.Path.{_≡_, refl, ap, _∙_}
 use mathlib.Core.List.{_++_}
 use borrow.Author.Needs.{needs}

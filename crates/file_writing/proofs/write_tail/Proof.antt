@@ -1,3 +1,4 @@
+-- The twelve bytes of the tail, store by store.
 use mathlib.Core.Path.{_≡_, refl, sym, ap, _∙_}
 use borrow.Author.Needs.{needs}
 use native.Mathlib.Omega.{arith}

@@ -1,3 +1,4 @@
+-- The tracers are written one after the other: after k of them the bytes of the first k parts stand behind the winds.
 use mathlib.Core.Path.{_≡_, refl, sym, ap, _∙_}
 use borrow.Author.Needs.{needs}
 use native.Mathlib.Omega.{arith}

@@ -1,3 +1,4 @@
+-- The whole text: by the length of the file, the answer of reading and that of the tracers it is what the definition prints.
 use mathlib.Core.Path.{sym, ap, _∙_}
 use Prim.Native.Nat.{_≤_}
 use native.Mathlib.Omega.{arith}

@@ -1,3 +1,4 @@
+-- One tracer: a refused step or reading is the definition's refusal, and else its lines are added, printed from the report buffer.
 use mathlib.Core.Path.{sym, ap, _∙_}
 use native.Mathlib.Omega.{arith}
 use Rattle.rules.specs.Answers.{outcome, reading}

@@ -1,3 +1,4 @@
+-- All tracers: after s of them their lines stand behind the line of the grid, and the field is what their steps left.
 use mathlib.Core.Path.{_≡_, refl, _∙_}
 use Prim.Native.Nat.{_-_, _≤_}
 use borrow.Author.Needs.{needs}

@@ -1,3 +1,4 @@
+-- The step's checks: 2, 4 and 5 by their tests, 6 and 7 as the reading of the total meets them.
 use mathlib.Core.Path.{_≡_, sym, ap, _∙_}
 use mathlib.Core.Bool.{true}
 use borrow.Author.Needs.{needs}

@@ -1,3 +1,5 @@
+-- The step: a refused one leaves every buffer; an accepted one lends the tracer's part and the front of work, and what comes back in
+-- place is the definition's field, report and work.
 use mathlib.Core.Path.{_≡_, sym, ap, _∙_}
 use mathlib.Core.List.{_++_}
 use Prim.Native.Nat.{_≤_, _-_, _+_}

@@ -1,3 +1,4 @@
+-- A number's size: the branch on its sign, and the casts, which lose nothing.
 use mathlib.Core.Path.{_≡_}
 use mathlib.Core.Bool.{true, false}
 use Prim.Native.Nat.{ℕ, suc}

@@ -1,3 +1,4 @@
+-- A word is copied byte by byte: after k bytes the buffer has the word's first k from its place on.
 use mathlib.Core.Path.{_≡_, refl}
 use Prim.Native.Nat.{_≤_, _<_, _+_, _*_, _-_}
 use borrow.Author.Needs.{needs}

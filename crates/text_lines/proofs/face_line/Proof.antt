@@ -1,3 +1,4 @@
+-- A face's line: its words and numbers, added one after the other, are the definition's bytes, and room is left for each.
 use mathlib.Core.Path.{ap}
 use borrow.Author.Needs.{needs}
 use mir.Facts.{toZ-ofZ}

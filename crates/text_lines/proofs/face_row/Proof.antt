@@ -1,3 +1,4 @@
+-- A row of faces: after i of them their lines stand in the buffer, each read from its place in the report.
 use mathlib.Core.Path.{_≡_, ap}
 use Prim.Native.Nat.{_≤_, _<_, _*_, _+_, _-_}
 use borrow.Author.Needs.{needs}

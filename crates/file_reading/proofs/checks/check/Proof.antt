@@ -1,3 +1,4 @@
+-- The checks 3 to 6 of a file: each test is the definition's, since each section is lent where the layout puts it.
 use mathlib.Core.Path.{_≡_, sym, ap, _∙_}
 use mathlib.Core.Bool.{true}
 use Prim.Native.Nat.{_-_, _*_, _≤_}

@@ -1,3 +1,4 @@
+-- Length and offsets: the loop has compared the first i offsets with the layout's, and a wrong one makes the definition's test fail.
 use mathlib.Core.Path.{_≡_, refl, sym, ap, _∙_}
 use mathlib.Core.Bool.{true, false}
 use Prim.Native.Nat.{_+_, _-_, _*_, _≤_}

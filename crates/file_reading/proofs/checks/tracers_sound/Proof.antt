@@ -1,3 +1,4 @@
+-- Every tracer's section is searched in turn: the numbers of a lent section are that tracer's part of the file's field.
 use mathlib.Core.Path.{_≡_, refl, sym, ap, _∙_}
 use mathlib.Core.Bool.{true}
 use Prim.Native.Nat.{_+_, _-_, _*_, _≤_}

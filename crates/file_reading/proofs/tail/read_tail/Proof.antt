@@ -1,3 +1,4 @@
+-- The tail: each test on the last 12 bytes is a check of the definition, and its first three bytes are the shape.
 use mathlib.Core.Path.{_≡_, sym, _∙_}
 use mathlib.Core.Bool.{true}
 use Prim.Native.Nat.{_+_, _-_}

@@ -1,3 +1,4 @@
+-- The checks of a writing: each test is a check of the definition, in its order.
 use mathlib.Core.Path.{_≡_, sym, ap, _∙_}
 use mathlib.Core.Bool.{true}
 use borrow.Author.Needs.{needs}

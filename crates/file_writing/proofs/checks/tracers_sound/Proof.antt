@@ -1,3 +1,4 @@
+-- Every tracer's part is searched in turn: the loop has found the first s sound, and an unsound one makes the definition's test fail.
 use mathlib.Core.Path.{_≡_, refl, sym}
 use mathlib.Core.Bool.{true}
 use borrow.Author.Needs.{needs}
