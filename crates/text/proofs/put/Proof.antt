@@ -21,14 +21,18 @@ loop-holds c =
     let a = c .args in
     (refl, omega arith, ends-at (blocks-none 1 (byteOf (a .word .now)) (a .at) (a .out .now) (omega arith)) (a .at + 0) (omega arith))
 
+-- places of the code, seen from later ones
+abbrev at-loop-from-shared-slice-known : tie.After-shared-slice-known Inv-loop μ-loop → tie.At-loop Inv-loop μ-loop
+at-loop-from-shared-slice-known c = c .before .before
+
 slice-write-out : tie.Need-slice-write-out Inv-loop μ-loop
 slice-write-out c =
-    let l = c .before .before .loop in
+    let l = at-loop-from-shared-slice-known c .loop in
     omega (arith, added-length (l .inv .2))
 
 loop-again : tie.Need-loop-again Inv-loop μ-loop
 loop-again c =
-    let l = c .before .before .loop in
+    let l = at-loop-from-shared-slice-known c .loop in
     let a = c .before .before .before .args in
     let room : a .at + l .k < length (l .out) = omega (arith, added-length (l .inv .2)) in
     (refl, omega arith, ends-at (block-more 1 (byteOf (a .word .now)) (l .inv .2) (byte-added (a .at + l .k) _ (l .out) room)) (a .at + (l .k + 1)) (omega arith))
