@@ -11,7 +11,7 @@ use Rattle.whole.proofs.Cases.{both-yes}
 use Rattle.rules.specs.declared.Shape.{Shape}
 use Rattle.rules.specs.Answers.{Answer, accepted, refused, Check, check, answer, plain}
 use Rattle.rules.specs.Field.{quadratic, admitted, element, onGrid, fieldLength, part, withPart, mass, total, limit, Admitted}
-use Rattle.rules.specs.Calls.{Operation, emission, withdrawal, Lent, lentEnough, soundIfThere, checks, done, call, massReading, totalReading, Reply, noReport}
+use Rattle.rules.specs.Calls.{Operation, emission, withdrawal, Lent, lentEnough, soundIfThere, checks, done, call, massReading, totalReading, Reply, noReport, totalChecks}
 use Rattle.field_layout.specs.Places.{Inside}
 use Rattle.field_search.specs.Search.{searched}
 use Rattle.rules.proofs.AnswerLaws.{answer-ind, prefix-refused, prefix-accepted, after-refused, after-accepted}
@@ -30,7 +30,7 @@ module _ (g : Shape) (s : ℕ) (f : List ℕ) where
 
   -- 2, 4, 6 and 7
   abbrev first : List Check
-  first = check 2 (admitted g) ∷ check 4 (leb (fieldLength quadratic g) (length f)) ∷ check 6 (soundIfThere quadratic g (ltb s (g .tracers)) p) ∷ check 7 (ltb s (g .tracers)) ∷ []
+  first = totalChecks quadratic g s f
 
   -- what an accepted reading of the total has shown
   pub record Found (t : ℕ) : Type 0 where

@@ -1,6 +1,5 @@
 -- A row of calls that keep their contracts is the list performed: the same answers, and the same state after it.
 use mathlib.Core.Path.{_≡_, refl, sym, ap, ap₂, subst, _∙_}
-use mathlib.Core.Bool.{_&&_}
 use mathlib.Core.List.{List, [], _∷_}
 use Prim.Native.Nat.{ℕ, _≤_, _<_}
 use native.Mathlib.Omega.{arith}
@@ -13,9 +12,9 @@ use Rattle.whole.proofs.OverwriteLaws.{front-is}
 use Rattle.whole.proofs.TableLaws.{length-table}
 use Rattle.rules.specs.declared.Shape.{Shape}
 use Rattle.rules.specs.declared.Outcome.the-variants.{Accepted}
-use Rattle.rules.specs.Answers.{Answer, accepted, refused, check, plain, outcome}
-use Rattle.rules.specs.Field.{quadratic, admitted, faces, fieldLength, part, remainder, mass, total, limit}
-use Rattle.rules.specs.Calls.{Operation, load, emission, withdrawal, step, Lent, lengthsLent, lent, Reply, noReport, done, call, freshReply, freshField, freshWind, zeroField, zeroWind, reportAfter, answers, FreshGives}
+use Rattle.rules.specs.Answers.{Answer, accepted, refused, plain, outcome}
+use Rattle.rules.specs.Field.{quadratic, faces, fieldLength, part, remainder, mass, total, limit}
+use Rattle.rules.specs.Calls.{Operation, load, emission, withdrawal, step, Lent, lengthsLent, lent, Reply, noReport, done, call, freshReply, freshField, freshWind, zeroField, zeroWind, reportAfter, answers, FreshGives, freshChecks}
 use Rattle.rules.specs.Step.{report, tracerStep}
 use Rattle.rules.proofs.AnswerLaws.{answer-ind, after-accepted}
 use Rattle.rules.proofs.FieldLaws.{call-ind}
@@ -102,7 +101,7 @@ module _ (g : Shape) (field : List ℕ) (wind : List ℤ) (x : State) (h : Fresh
   fresh-room : fieldLength quadratic g ≤ length field
   unfolding freshReply
   fresh-room = answer-ind (λ a. accepted tt ≡ a → fieldLength quadratic g ≤ length field)
-      (check 2 (admitted g) ∷ check 4 (leb (fieldLength quadratic g) (length field) && leb (faces g) (length wind)) ∷ []) tt
+      (freshChecks quadratic g field wind) tt
       (λ n e. absurd (never n e))
       (λ c e. leb→le _ _ (both-yes (leb (fieldLength quadratic g) (length field)) (leb (faces g) (length wind)) (c .1 .0) .0)) (h .0)
 

@@ -1,5 +1,5 @@
--- Demand 3: what holds after a list of calls from a fresh field. It speaks of the definition `run`, which folds over the very
--- definitions that the contracts of the calls cite: `call`, `windReply` and `windAfter`.
+-- Demand 3: what holds after a list of calls from a fresh field. It speaks of the definition `run`, which folds over `call`, `windReply` and
+-- `windAfter`, of which the definitions that the contracts cite are made.
 use mathlib.Core.Path.{_≡_}
 use mathlib.Core.List.{List}
 use Prim.Native.Nat.{ℕ, _≤_, _<_}

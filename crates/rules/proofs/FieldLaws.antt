@@ -11,9 +11,9 @@ use Rattle.whole.specs.Sum.{all}
 use Rattle.whole.proofs.Cases.{true-of, both-yes}
 use Rattle.whole.proofs.OverwriteLaws.{part-room, length-replaced, part-same, part-other}
 use Rattle.rules.specs.declared.Shape.{Shape}
-use Rattle.rules.specs.Answers.{Answer, accepted, refused, Check, check, answer, after}
+use Rattle.rules.specs.Answers.{Answer, accepted, refused, check, answer, after}
 use Rattle.rules.specs.Field.{Kind, admitted, elements, partLength, fieldLength, part, withPart, remainder, weightSum, total, limit, sound, Admitted}
-use Rattle.rules.specs.Calls.{Operation, load, emission, withdrawal, step, Lent, lentEnough, soundIfThere, Reply, Done, done, checks, call}
+use Rattle.rules.specs.Calls.{Operation, load, emission, withdrawal, step, Lent, lentEnough, soundIfThere, Reply, Done, done, checks, call, callChecks}
 use Rattle.rules.proofs.AnswerLaws.{Passed, answer-ind}
 use Rattle.rules.proofs.PartLaws.{part-length}
 use Rattle.rules.proofs.CallLaws.{done-length}
@@ -46,10 +46,6 @@ module _ (κ : Kind) (g : Shape) (s : ℕ) (op : Operation Lent) (field : List �
   abbrev d : Done
   d = done κ g op p
 
-  -- the checks of the call, in rising number
-  abbrev all-checks : List Check
-  all-checks = check 2 (admitted g) ∷ check 4 (leb (fieldLength κ g) (length field) && lentEnough κ g op) ∷ checks κ g op (ltb s (g .tracers)) p
-
   -- what an accepted call has shown
   pub record Accepted : Type 0 where
     pub shape : Admitted g
@@ -59,7 +55,7 @@ module _ (κ : Kind) (g : Shape) (s : ℕ) (op : Operation Lent) (field : List �
     pub end : s * partLength κ g + partLength κ g ≤ length field
     pub size : length (d .part) ≡ partLength κ g
 
-  accepted-of : Passed all-checks → Accepted
+  accepted-of : Passed (callChecks κ g s op field) → Accepted
   unfolding fieldLength
   accepted-of c = record {
     shape = shape;
@@ -83,7 +79,7 @@ module _ (κ : Kind) (g : Shape) (s : ℕ) (op : Operation Lent) (field : List �
   pub call-ind {ℓ} : (P : Answer Reply → List ℕ → Type ℓ) → ((n : ℕ) → P (refused n) field) → (Accepted → P (accepted (d .reply)) (withPart κ g s (d .part) field))
       → P (call κ g s op field .reply) (call κ g s op field .field)
   unfolding call after
-  call-ind P no′ yes′ = answer-ind (λ a. P a (after a (withPart κ g s (d .part) field) field)) all-checks (d .reply) no′ (λ c. yes′ (accepted-of c))
+  call-ind P no′ yes′ = answer-ind (λ a. P a (after a (withPart κ g s (d .part) field) field)) (callChecks κ g s op field) (d .reply) no′ (λ c. yes′ (accepted-of c))
 
   pub call-length : length (call κ g s op field .field) ≡ length field
   unfolding withPart

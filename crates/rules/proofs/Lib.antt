@@ -7,6 +7,7 @@ pub mod CorrectionLaws
 pub mod PartLaws
 pub mod LedgerLaws
 pub mod AnswerLaws
+pub mod RisingLaws
 pub mod StepLaws
 pub mod CallLaws
 pub mod FieldLaws

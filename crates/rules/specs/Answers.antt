@@ -1,7 +1,8 @@
 -- Document 01, "Who meets which refusal": how checks make an answer, and the number of each refusal.
-use mathlib.Core.Bool.{Bool, cond}
+use mathlib.Core.Bool.{Bool, true, _&&_, cond}
 use mathlib.Core.List.{List, [], _∷_}
 use Prim.Native.Nat.{ℕ}
+use lib.Dec.{ltb}
 use Rattle.rules.specs.declared.Shape.{Shape}
 use Rattle.rules.specs.declared.Refusal.{Refusal}
 use Rattle.rules.specs.declared.Refusal.the-variants.{NoFieldFile, BadShape, BadOffsets, ShortBuffer, WindOutOfRange, UnsoundTracer, NoSuchTracer, NoSuchElement, TotalAboveLimit, MassTooSmall}
@@ -25,7 +26,12 @@ pub record Check : Type 0 where
 abbrev pub check : ℕ → Bool → Check
 check n b = record { number = n; passes = b }
 
--- "Checks run in rising number, each only when those before it passed.": the list of every call is in rising number
+-- "Checks run in rising number": each has a larger number than the one before it, the first than n. The list of every call is so (`RisingLaws`)
+unfoldable pub rising : ℕ → List Check → Bool
+rising n [] = true
+rising n (c ∷ cs) = ltb n (c .number) && rising (c .number) cs
+
+-- "each only when those before it passed"
 unfoldable pub answer : {A : Type 0} → List Check → A → Answer A
 answer [] x = accepted x
 answer (c ∷ cs) x = cond (c .passes) (answer cs x) (refused (c .number))

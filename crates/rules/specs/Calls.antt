@@ -139,35 +139,41 @@ module _ (κ : Kind) (g : Shape) where
       check 6 (soundIfThere there p) ∷ check 7 there ∷ check 8 (onGrid g i j) ∷ check 10 (leb q (mass κ p (element g i j))) ∷ []
   checks (step l) there p = check 5 (windSound g (l .wind)) ∷ check 6 (soundIfThere there p) ∷ check 7 there ∷ []
 
+  -- all checks of a call on tracer s
+  abbrev pub callChecks : ℕ → Operation Lent → List ℕ → List Check
+  callChecks s op field = check 2 (admitted g) ∷ check 4 (leb (fieldLength κ g) (length field) && lentEnough op) ∷ checks op (ltb s (g .tracers)) (part κ g s field)
+
   -- a call on tracer s
   unfoldable pub call : ℕ → Operation Lent → List ℕ → Called
   unfolding answer after admitted fieldLength lentEnough checks done part withPart
   call s op field =
-      let p = part κ g s field in
-      let d = done op p in
-      let a = answer (check 2 (admitted g) ∷ check 4 (leb (fieldLength κ g) (length field) && lentEnough op) ∷ checks op (ltb s (g .tracers)) p) (d .reply) in
+      let d = done op (part κ g s field) in
+      let a = answer (callChecks s op field) (d .reply) in
       record { reply = a; field = after a (withPart κ g s (d .part) field) field }
 
   -- "Readings: an element's M; a smoke's total."
-  unfoldable pub massReading : ℕ → ℕ → ℕ → List ℕ → Answer ℕ
-  unfolding answer admitted fieldLength soundIfThere part mass
-  massReading s i j field =
-      let there = ltb s (g .tracers) in
-      let p = part κ g s field in
-      answer (check 2 (admitted g) ∷ check 4 (leb (fieldLength κ g) (length field)) ∷ check 6 (soundIfThere there p) ∷ check 7 there ∷ check 8 (onGrid g i j) ∷ [])
-      (mass κ p (element g i j))
+  abbrev pub totalChecks : ℕ → List ℕ → List Check
+  totalChecks s field =
+      check 2 (admitted g) ∷ check 4 (leb (fieldLength κ g) (length field)) ∷ check 6 (soundIfThere (ltb s (g .tracers)) (part κ g s field)) ∷ check 7 (ltb s (g .tracers)) ∷ []
 
   unfoldable pub totalReading : ℕ → List ℕ → Answer ℕ
   unfolding answer admitted fieldLength soundIfThere part total
-  totalReading s field =
-      let there = ltb s (g .tracers) in
-      let p = part κ g s field in
-      answer (check 2 (admitted g) ∷ check 4 (leb (fieldLength κ g) (length field)) ∷ check 6 (soundIfThere there p) ∷ check 7 there ∷ []) (total κ g p)
+  totalReading s field = answer (totalChecks s field) (total κ g (part κ g s field))
+
+  abbrev pub massChecks : ℕ → ℕ → ℕ → List ℕ → List Check
+  massChecks s i j field = totalChecks s field ++ (check 8 (onGrid g i j) ∷ [])
+
+  unfoldable pub massReading : ℕ → ℕ → ℕ → List ℕ → Answer ℕ
+  unfolding answer admitted fieldLength soundIfThere part mass
+  massReading s i j field = answer (massChecks s i j field) (mass κ (part κ g s field) (element g i j))
 
   -- "Fresh: writes zeros to field and wind."
+  abbrev pub freshChecks : List ℕ → List ℤ → List Check
+  freshChecks field wind = check 2 (admitted g) ∷ check 4 (leb (fieldLength κ g) (length field) && leb (faces g) (length wind)) ∷ []
+
   unfoldable pub freshReply : List ℕ → List ℤ → Answer (Unit {0})
   unfolding answer admitted fieldLength
-  freshReply field wind = answer (check 2 (admitted g) ∷ check 4 (leb (fieldLength κ g) (length field) && leb (faces g) (length wind)) ∷ []) tt
+  freshReply field wind = answer (freshChecks field wind) tt
 
   -- zeros over the numbers of the shape; surplus stays
   unfoldable pub zeroField : List ℕ → List ℕ
@@ -185,10 +191,12 @@ module _ (κ : Kind) (g : Shape) where
 
 module _ (g : Shape) where
   -- "Wind: one face (east or north, i, j) gets a new C."
+  abbrev pub windChecks : Face → List ℤ → List Check
+  windChecks f wind = check 2 (admitted g) ∷ check 4 (leb (faces g) (length wind)) ∷ check 5 (windInRange (f .wind)) ∷ check 8 (onGrid g (f .i) (f .j)) ∷ []
+
   unfoldable pub windReply : Face → List ℤ → Answer (Unit {0})
   unfolding answer admitted
-  windReply f wind =
-      answer (check 2 (admitted g) ∷ check 4 (leb (faces g) (length wind)) ∷ check 5 (windInRange (f .wind)) ∷ check 8 (onGrid g (f .i) (f .j)) ∷ []) tt
+  windReply f wind = answer (windChecks f wind) tt
 
   -- the winds after it
   unfoldable pub windAfter : Face → List ℤ → List ℤ

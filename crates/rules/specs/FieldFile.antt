@@ -10,7 +10,7 @@ use Rattle.whole.specs.Sum.{all}
 use Rattle.whole.specs.Table.{table, blocks, overwrite}
 use Rattle.rules.specs.declared.Shape.{Shape}
 use Rattle.rules.specs.declared.FileRead.{FileRead}
-use Rattle.rules.specs.Answers.{Answer, check, answer, after, fileAnswer}
+use Rattle.rules.specs.Answers.{Answer, Check, check, answer, after, fileAnswer}
 use Rattle.rules.specs.Field.{Kind, admitted, faces, partLength, fieldLength, part, sound}
 use Rattle.rules.specs.Calls.{windAt, windSound}
 
@@ -102,12 +102,15 @@ module _ (κ : Kind) where
   fieldSound g field = all (g .tracers) (λ s. sound κ g (part κ g s field))
 
   -- "File reading answers the shape". "Where the tail gives no shape it refuses before looking at a section": by 1 or 2
+  abbrev pub readChecks : List ℕ → List ℕ → List ℤ → List Check
+  readChecks file field wind =
+      let g = tailShape file in
+      check 1 (tailRight file) ∷ check 2 (admitted g) ∷ check 3 (offsetsRight g file) ∷ check 4 (leb (fieldLength κ g) (length field) && leb (faces g) (length wind))
+      ∷ check 5 (windSound g (fileWind g file)) ∷ check 6 (fieldSound g (fileField g file)) ∷ []
+
   unfoldable pub readReply : List ℕ → List ℕ → List ℤ → Answer Shape
   unfolding answer tailShape tailRight admitted offsetsRight fieldLength windSound fieldSound fileWind fileField
-  readReply file field wind =
-      let g = tailShape file in
-      answer (check 1 (tailRight file) ∷ check 2 (admitted g) ∷ check 3 (offsetsRight g file) ∷ check 4 (leb (fieldLength κ g) (length field) && leb (faces g) (length wind))
-      ∷ check 5 (windSound g (fileWind g file)) ∷ check 6 (fieldSound g (fileField g file)) ∷ []) g
+  readReply file field wind = answer (readChecks file field wind) (tailShape file)
 
   -- field and wind after the call: the file's numbers at the front, surplus left alone
   unfoldable pub readField : List ℕ → List ℕ → List ℤ → List ℕ
@@ -119,11 +122,14 @@ module _ (κ : Kind) where
   readWind file field wind = after (readReply file field wind) (overwrite 0 (fileWind (tailShape file) file) wind) wind
 
   -- ---- writing: "file writing the file's length in bytes"
+  abbrev pub writeChecks : Shape → List ℕ → List ℤ → List ℕ → List Check
+  writeChecks g field wind file =
+      check 2 (admitted g) ∷ check 4 (leb (fieldLength κ g) (length field) && (leb (faces g) (length wind) && leb (fileLength κ g) (length file)))
+      ∷ check 5 (windSound g wind) ∷ check 6 (fieldSound g field) ∷ []
+
   unfoldable pub writeReply : Shape → List ℕ → List ℤ → List ℕ → Answer ℕ
   unfolding answer admitted fieldLength fileLength windSound fieldSound
-  writeReply g field wind file =
-      answer (check 2 (admitted g) ∷ check 4 (leb (fieldLength κ g) (length field) && (leb (faces g) (length wind) && leb (fileLength κ g) (length file)))
-      ∷ check 5 (windSound g wind) ∷ check 6 (fieldSound g field) ∷ []) (fileLength κ g)
+  writeReply g field wind file = answer (writeChecks g field wind file) (fileLength κ g)
 
   -- the file after the call: its bytes at the front, surplus left alone
   unfoldable pub writeFile : Shape → List ℕ → List ℤ → List ℕ → List ℕ
