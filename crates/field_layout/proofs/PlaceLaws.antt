@@ -25,6 +25,10 @@ module _ (g : Shape) where
   unfolding elementsLength
   elements-are = ap (λ n. elements g * n) ten
 
+  -- a tracer's elements are within its part
+  pub elements-within : elementsLength quadratic g ≤ partLength quadratic g
+  elements-within = omega (arith, part-is-elements quadratic g)
+
   pub part-is : partLength quadratic g ≡ elements g * 10
   part-is = part-is-elements quadratic g ∙ elements-are
 
