@@ -29,7 +29,7 @@ pub fn winds_sound(wind: &[i16], shape: Shape) -> bool
 }
 
 // The largest remainder of an element, and the largest total of a tracer.
-pub const LARGEST_REMAINDER: u64 = 35;
+const LARGEST_REMAINDER: u64 = 35;
 
 pub const LIMIT: u64 = 100_000_000;
 
