@@ -1,4 +1,5 @@
--- Numbers that are lent in parts of nine or ten: what is loaded, weighed and closed is what the whole list says.
+-- Numbers that are lent in parts of nine or ten: what is loaded, weighed and closed is what the whole list says, because number i of a
+-- part is number start + i of the list.
 use mathlib.Core.Path.{_≡_, sym, ap, _∙_}
 use mathlib.Core.List.{List, [], _∷_, _++_}
 use Prim.Native.Nat.{ℕ, _+_, _*_, _-_, _≤_, _<_}

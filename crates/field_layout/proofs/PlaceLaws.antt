@@ -1,4 +1,4 @@
--- Where numbers stand, with numerals: lengths, starts and rooms of an admitted shape.
+-- Lengths, starts and rooms of an admitted shape, with numerals: each is a product of factors that the shape bounds.
 use mathlib.Core.Path.{_≡_, refl, sym, ap, _∙_}
 use mathlib.Core.Bool.{true, false}
 use Prim.Native.Nat.{ℕ, suc, _+_, _*_, _≤_, _<_}

@@ -1,13 +1,13 @@
--- The search of a tracer's numbers, wherever they are read from: what holds between elements and within an element, as records that one
--- turn of each loop keeps, and what every way out of the search says. A break is one of every longer part, because masses only add.
+-- The search of a tracer's numbers, wherever they are read from: what holds between and within elements, as records that a turn of each
+-- loop keeps, and what every way out says; a break is one of every longer part, because masses only add.
 use mathlib.Core.Path.{_≡_, refl, sym, ap, subst, _∙_}
-use mathlib.Core.Bool.{Bool, true, false, not, _&&_, _||_, cond}
+use mathlib.Core.Bool.{Bool, true, false, _&&_, _||_, cond}
 use mathlib.Core.List.{List}
 use mathlib.Core.Logic.{_⊎_, inl, inr, ⊎-elim}
 use Prim.Native.Nat.{ℕ, _+_, _*_, _≤_, _<_}
 use native.Mathlib.Nat.{zero-mul}
 use native.Mathlib.Omega.{arith}
-use borrow.Author.Tests.{lt-leb, le-leb, lt-ltb, le-ltb, ltb-true, ltb-false, eqb-true, eq-eqb, not-true, not-false}
+use borrow.Author.Tests.{lt-leb, le-leb, lt-ltb, le-ltb, ltb-true, ltb-false, eqb-true, eq-eqb}
 use lib.Dec.{eqb, ltb}
 use lib.ListN.{getD}
 use Rattle.whole.specs.Sum.{sum, all}
@@ -22,29 +22,6 @@ use Rattle.field_layout.proofs.PlaceLaws.{elements-are}
 use Rattle.field_elements.specs.Weighing.{numberWeight, weighed}
 use Rattle.field_elements.proofs.ElementLaws.{mass-ten, weighed-more}
 use Rattle.field_search.specs.Search.{breaks, searched}
-
--- ---- a search of n numbers by one test: the first k have passed
-pub record Passing (f : ℕ → Bool) (n k : ℕ) : Type 0 where
-  pub within : k ≤ n
-  pub passed : all k f ≡ true
-
-module _ {f : ℕ → Bool} {n : ℕ} where
-  pub none-passed : Passing f n 0
-  unfolding all
-  none-passed = record { within = omega arith; passed = refl }
-
-  pub next-passes : {k : ℕ} {r : Bool} → Passing f n k → k < n → r ≡ f k → not r ≡ false → Passing f n (k + 1)
-  next-passes {k} {r} h l e t = record { within = omega arith; passed = all-more k f (h .passed) (sym e ∙ not-false r t) }
-
-  pub next-fails : {k : ℕ} {r : Bool} → Passing f n k → k < n → r ≡ f k → not r ≡ true → all n f ≡ false
-  next-fails {k} {r} h l e t = all-fails n f k l (sym e ∙ not-true r t)
-
-  pub all-passed : {k : ℕ} → Passing f n k → n ≤ k → all n f ≡ true
-  all-passed {k} h l = let e : k ≡ n = omega (arith, h .within) in rw e at (h .passed)
-
-both-false : (b : Bool) → (b && false) ≡ false
-both-false true = refl
-both-false false = refl
 
 -- ---- the two breaks
 module _ (v x t : ℕ) where
@@ -98,6 +75,7 @@ pub record WithinElement (p : List ℕ) (n start v sum : ℕ) (unbroken : Bool) 
   pub numbers : v ≤ 10
   pub last : v ≡ 10 → getD p (start + 9) 0 ≤ 35
 
+-- before the first row; a row's start and end, whose count of elements is written in two ways; an element's start
 pub search-starts : (p : List ℕ) (nx : ℕ) → BetweenElements p (0 * nx) 0 0 true
 unfolding soundTo totalTo all sum
 search-starts p nx = record { going = refl; remainders = rw zero-mul; masses = rw zero-mul; small = omega arith; place = omega (arith, zero-mul nx) }
@@ -135,6 +113,10 @@ module _ {p : List ℕ} {n start : ℕ} where
         small = k .small;
         place = omega (arith, h .place);
       }
+
+both-false : (b : Bool) → (b && false) ≡ false
+both-false true = refl
+both-false false = refl
 
 -- ---- the ways out
 module _ (g : Shape) {p : List ℕ} {n start s : ℕ} {b : Bool} (h : BetweenElements p n start s b) where

@@ -33,7 +33,7 @@ const LARGEST_REMAINDER: u64 = 35;
 
 pub const LIMIT: u64 = 100_000_000;
 
-// Whether the search of a tracer ends at number v of an element, x, with which its total is sum: a remainder or a total is too large.
+// Whether a search of a tracer ends at number v of an element: x is a remainder above 35, or sum, the total with it, is above the limit.
 pub fn breaks(v: usize, x: u64, sum: u64) -> bool
     ensures { λ r. ⌜ r ≡ breaks v x sum ⌝ }
 {

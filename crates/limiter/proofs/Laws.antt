@@ -1,4 +1,4 @@
--- The sizes of the sums that the closing's loops make.
+-- The sums that the closing's loops keep are within bounds: every term by its value's size and its weight, and nine weights make 36.
 use mathlib.Core.Path.{_≡_, refl, sym}
 use mathlib.Core.List.{List}
 use Prim.Native.Nat.{ℕ, _+_, _*_, _≤_, _<_}

@@ -5,7 +5,7 @@ use Prim.Native.Nat.{_-_}
 use mir.Syntax.{w16}
 use mir.Facts.{toZ-ofZ}
 use Rattle.rules.specs.Calls.{windInRange, windAt, windSound}
-use Rattle.field_search.proofs.SearchLaws.{Passing, none-passed, next-passes, next-fails, all-passed}
+use Rattle.field_search.proofs.TestLaws.{Passing, none-passed, next-passes, next-fails, all-passed}
 use Rattle.field_search.proofs.winds_sound.Statement.{statement}
 use Rattle.field_search.proofs.winds_sound.Tie as tie
 

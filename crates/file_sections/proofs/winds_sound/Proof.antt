@@ -6,7 +6,7 @@ use mir.Syntax.{w16}
 use mir.Facts.{toZ-ofZ}
 use Rattle.rules.specs.Calls.{windInRange}
 use Rattle.rules.specs.FieldFile.{number16}
-use Rattle.field_search.proofs.SearchLaws.{Passing, none-passed, next-passes, next-fails, all-passed}
+use Rattle.field_search.proofs.TestLaws.{Passing, none-passed, next-passes, next-fails, all-passed}
 use Rattle.file_sections.proofs.winds_sound.Statement.{statement}
 use Rattle.file_sections.proofs.winds_sound.Tie as tie
 

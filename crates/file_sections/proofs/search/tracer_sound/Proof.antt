@@ -1,25 +1,33 @@
 -- The search of a section's bytes: `SearchLaws` says what each turn keeps and what both ways out say, of the list of the section's numbers.
-use mathlib.Core.Path.{_≡_, sym, _∙_}
+use mathlib.Core.Path.{_≡_, refl, sym, _∙_}
 use mathlib.Core.List.{List}
 use Prim.Native.Nat.{ℕ, _≤_, _-_, _+_, _*_, _^_}
 use native.Mathlib.Omega.{arith}
 use borrow.Author.Needs.{needs}
 use lib.ListN.{getD}
-use Rattle.rules.specs.Field.{elements}
+use Rattle.rules.specs.declared.Shape.{Shape}
+use Rattle.rules.specs.Field.{quadratic, elementsLength, partLength}
 use Rattle.rules.specs.Sizes.{mostElements}
 use Rattle.rules.proofs.GridLaws.{element-lt}
 use Rattle.rules.proofs.ShapeLaws.{row-more, all-rows}
 use Rattle.field_elements.proofs.ElementLaws.{weighs-small}
-use Rattle.field_layout.proofs.PlaceLaws.{elements-are, part-is}
+use Rattle.field_layout.proofs.PlaceLaws.{elements-within}
 use Rattle.field_search.proofs.SearchLaws.{BetweenElements, WithinElement, search-starts, at-element, element-starts, number-added, element-ends, numbers-room, sound-all, broken}
 use Rattle.file_sections.specs.Numbers.{numbersOf}
 use Rattle.file_sections.proofs.SectionLaws.{number-at}
 use Rattle.file_sections.proofs.search.tracer_sound.Statement.{statement}
 use Rattle.file_sections.proofs.search.tracer_sound.Tie as tie
 
--- the section's numbers
+-- the section's numbers, of a grid of this size
+abbrev grid : ℕ → ℕ → Shape
+grid nx ny = record { nx = nx; ny = ny; tracers = 1 }
+
 abbrev held : List ℕ → ℕ → ℕ → List ℕ
-held section nx ny = numbersOf section (nx * ny * 10)
+held section nx ny = numbersOf section (partLength quadratic (grid nx ny))
+
+part-of : (g : Shape) → partLength quadratic (grid (g .nx) (g .ny)) ≡ partLength quadratic g
+unfolding partLength elementsLength
+part-of g = refl
 
 abbrev Inv-numbers : tie.InvT-numbers
 Inv-numbers section nx ny sum₀ sound₀ start j i v₀ sum sound v = WithinElement (held section nx ny) (j * nx + i) start v sum sound
@@ -41,13 +49,13 @@ abbrev μ-rows : tie.MeasureT-rows
 
 -- the element of a turn is there, with its numbers
 room : (c : tie.In-elements Inv-numbers μ-numbers Inv-elements μ-elements Inv-rows μ-rows)
-    → (c .before .elements .start + 10 ≤ elements (c .before .before .before .before .before .args .shape) * 10) × (c .before .elements .start + 10 ≤ 10 * mostElements)
+    → (c .before .elements .start + 10 ≤ partLength quadratic (c .before .before .before .before .before .args .shape)) × (c .before .elements .start + 10 ≤ 10 * mostElements)
 room c =
     let b = c .before .before .before in
     let s = b .before .before in
     let g = s .args .shape in
     let r = numbers-room g (c .before .elements .inv .0) (s .pre .0) (element-lt g (c .before .elements .i) (b .rows .j) (c .elements-test .taken) (c .before .before .rows-test .taken)) in
-    (omega (arith, r .0, elements-are g), r .1)
+    (omega (arith, r .0, elements-within g), r .1)
 
 -- the number that a turn reads, and what it adds
 read : (c : tie.After-number32 Inv-numbers μ-numbers Inv-elements μ-elements Inv-rows μ-rows)
@@ -56,7 +64,7 @@ read c =
     let e = c .before .before .before in
     let a = e .before .before .before .before .before .args in
     let r = room e in
-    c .number32 .ensures ∙ number-at (a .section .now) (a .shape .nx * a .shape .ny * 10) (e .before .elements .start + c .before .before .numbers .v) (omega arith)
+    c .number32 .ensures ∙ number-at (a .section .now) (partLength quadratic (grid (a .shape .nx) (a .shape .ny))) (e .before .elements .start + c .before .before .numbers .v) (omega (arith, part-of (a .shape)))
 
 added : (c : tie.After-number-weight Inv-numbers μ-numbers Inv-elements μ-elements Inv-rows μ-rows) → c .number-weight .result * c .before .number32 .result ≤ 16 * 2 ^ 32
 added c = weighs-small (c .before .before .before .numbers .v) (c .number-weight .ensures) (record { fits = c .before .number32 .ok })
@@ -69,9 +77,8 @@ elements-holds c = (at-element (omega arith) (c .before .rows .inv .0), omega ar
 
 number32-requires : tie.Need-number32-requires Inv-numbers μ-numbers Inv-elements μ-elements Inv-rows μ-rows
 number32-requires c κs =
-    let s = c .before .before .before .before .before .before .before in
     let r = room (c .before .before) in
-    omega (arith, s .pre .1, part-is (s .args .shape))
+    omega (arith, c .before .before .before .before .before .before .before .pre .1)
 
 numbers-again : tie.Need-numbers-again Inv-numbers μ-numbers Inv-elements μ-elements Inv-rows μ-rows
 numbers-again c =
@@ -91,7 +98,7 @@ returns : tie.Need-returns Inv-numbers μ-numbers Inv-elements μ-elements Inv-r
 returns c =
     let g = c .before .before .before .args .shape in
     let r = c .before .rows in
-    rw (part-is g) (r .inv .0 .going ∙ sym (sound-all g (r .inv .0) (all-rows g (r .j) (omega arith))))
+    rw (← (part-of g)) (r .inv .0 .going ∙ sym (sound-all g (r .inv .0) (all-rows g (r .j) (omega arith))))
 
 -- a number is a break
 returns-2 : tie.Need-returns-2 Inv-numbers μ-numbers Inv-elements μ-elements Inv-rows μ-rows
@@ -100,7 +107,7 @@ returns-2 c =
     let e = n .before .before .before in
     let b = e .before .before in
     let g = b .before .before .args .shape in
-    rw (part-is g) (sym (broken g (e .elements .inv .0) (element-lt g (e .elements .i) (b .rows .j) (n .before .before .elements-test .taken) (e .before .rows-test .taken)) (n .before .numbers .inv) (n .numbers-test .taken) (c .before .before .number-weight .ensures) (read (c .before .before .before)) (sym (c .before .breaks .ensures) ∙ c .if1 .taken)))
+    rw (← (part-of g)) (sym (broken g (e .elements .inv .0) (element-lt g (e .elements .i) (b .rows .j) (n .before .before .elements-test .taken) (e .before .rows-test .taken)) (n .before .numbers .inv) (n .numbers-test .taken) (c .before .before .number-weight .ensures) (read (c .before .before .before)) (sym (c .before .breaks .ensures) ∙ c .if1 .taken)))
 
 pub tracer-sound-spec : {M : Type 1} → statement M
 tracer-sound-spec = tie.close (tie.spec Inv-numbers μ-numbers Inv-elements μ-elements Inv-rows μ-rows rows-holds elements-holds (λ c. element-starts (c .before .elements .inv .0)) (λ c. let r = room (c .before .before) in record { fits = omega arith }) (λ c. let r = room (c .before .before) in record { fits = omega arith }) number32-requires (λ c. search needs) (λ c κs. search needs) (λ c. record { fits = omega (arith, added c) }) (λ c. record { fits = omega (arith, added c) }) (λ c κs. search needs) (λ c. search needs) (λ c. search needs) numbers-again (λ c. let r = room (c .before .before) in record { fits = omega arith }) (λ c. search needs) (λ c. search needs) elements-again (λ c. search needs) (λ c. search needs) rows-again returns returns-2)
