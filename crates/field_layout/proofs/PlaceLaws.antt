@@ -1,4 +1,4 @@
--- Where numbers stand, with numerals: lengths, starts and rooms of an admitted shape.
+-- Lengths, starts and rooms of an admitted shape, with numerals: each is a product of factors that the shape bounds.
 use mathlib.Core.Path.{_≡_, refl, sym, ap, _∙_}
 use mathlib.Core.Bool.{true, false}
 use Prim.Native.Nat.{ℕ, suc, _+_, _*_, _≤_, _<_}
@@ -11,10 +11,11 @@ use Rattle.whole.proofs.OverwriteLaws.{part-room}
 use Rattle.rules.specs.declared.Shape.{Shape}
 use Rattle.rules.specs.Field.{quadratic, elements, element, elementLength, partLength, fieldLength, Admitted, elementsLength}
 use Rattle.rules.specs.Calls.{windInRange}
+use Rattle.rules.specs.Sizes.{mostElements}
 use Rattle.rules.proofs.GridLaws.{element-lt}
 use Rattle.rules.proofs.ShapeLaws.{elements-le}
 use Rattle.rules.proofs.PartLaws.{part-is-elements}
-use Rattle.field_layout.specs.Places.{Inside, elementStart}
+use Rattle.field_layout.specs.Places.{Inside, elementStart, mostPart, mostField}
 
 pub ten : elementLength quadratic ≡ 10
 unfolding elementLength quadratic
@@ -25,6 +26,10 @@ module _ (g : Shape) where
   unfolding elementsLength
   elements-are = ap (λ n. elements g * n) ten
 
+  -- a tracer's elements are within its part
+  pub elements-within : elementsLength quadratic g ≤ partLength quadratic g
+  elements-within = omega (arith, part-is-elements quadratic g)
+
   pub part-is : partLength quadratic g ≡ elements g * 10
   part-is = part-is-elements quadratic g ∙ elements-are
 
@@ -32,25 +37,29 @@ module _ (g : Shape) where
   unfolding fieldLength
   field-is = refl
 
-  pub part-le : Admitted g → partLength quadratic g ≤ 40960
+  pub part-le : Admitted g → partLength quadratic g ≤ mostPart
   part-le h = omega (arith, part-is, elements-le g h)
 
-  pub field-le : Admitted g → g .tracers * partLength quadratic g ≤ 327680
+  pub field-le : Admitted g → g .tracers * partLength quadratic g ≤ mostField
   field-le h = mul-le-mul (h .tracers-small) (part-le h)
 
   -- a tracer's part ends within the field
   pub tracer-room : (s : ℕ) → s < g .tracers → s * partLength quadratic g + partLength quadratic g ≤ fieldLength quadratic g
   tracer-room s h = omega (arith, part-room (partLength quadratic g) h, field-is)
 
-  pub start-le : (s : ℕ) → Admitted g → s < g .tracers → s * partLength quadratic g ≤ 327680
+  pub start-le : (s : ℕ) → Admitted g → s < g .tracers → s * partLength quadratic g ≤ mostField
   start-le s z h = omega (arith, tracer-room s h, field-is, field-le z)
+
+  -- an element is one of the grid's
+  pub index-small : {s i j : ℕ} → Inside g s i j → (element g i j < elements g) × (elements g ≤ mostElements)
+  index-small {s} {i} {j} h = (element-lt g i j (h .column) (h .row), elements-le g (h .admits))
 
   -- and an element's numbers within its tracer's part
   pub element-room : (s i j : ℕ) → Inside g s i j → elementStart g s i j + 10 ≤ fieldLength quadratic g
   unfolding elementStart
   element-room s i j h = omega (arith, tracer-room s (h .tracer), part-is, ap (λ n. element g i j * n) ten, element-lt g i j (h .column) (h .row))
 
-  pub element-ends : (s i j : ℕ) → Inside g s i j → (n : ℕ) → fieldLength quadratic g ≤ n → (at : ℕ) → at ≡ elementStart g s i j → (at + 10 ≤ n) × (at + 10 ≤ 327680)
+  pub element-ends : (s i j : ℕ) → Inside g s i j → (n : ℕ) → fieldLength quadratic g ≤ n → (at : ℕ) → at ≡ elementStart g s i j → (at + 10 ≤ n) × (at + 10 ≤ mostField)
   element-ends s i j h n room at e = (omega (arith, element-room s i j h, room, e), omega (arith, element-room s i j h, field-is, field-le (h .admits), e))
 
   pub start-is : (s i j : ℕ) → elementStart g s i j ≡ s * partLength quadratic g + element g i j * 10

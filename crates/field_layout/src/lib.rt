@@ -8,6 +8,7 @@ ghost use Rattle.field_layout.specs.Places.{Inside, elementStart};
 use rules::Face;
 use rules::Shape;
 use rules::Way;
+use rules::element::NUMBERS;
 
 // Whether n is from 1 to most.
 fn from_1_to(most: usize, n: usize) -> bool
@@ -71,7 +72,7 @@ pub fn elements_length(shape: Shape) -> usize
     requires { ⌜ Admitted shape ⌝ }
     ensures { λ r. ⌜ r ≡ elementsLength quadratic shape ⌝ }
 {
-    elements(shape) * 10
+    elements(shape) * NUMBERS
 }
 
 // The numbers of a tracer's part of the field: those of its elements.
@@ -104,7 +105,7 @@ pub fn element_start(shape: Shape, tracer: usize, i: usize, j: usize) -> usize
     requires { ⌜ Inside shape tracer i j ⌝ }
     ensures { λ r. ⌜ r ≡ elementStart shape tracer i j ⌝ }
 {
-    tracer_start(shape, tracer) + (j * shape.nx + i) * 10
+    tracer_start(shape, tracer) + (j * shape.nx + i) * NUMBERS
 }
 
 // Where a face's wind stands.

@@ -1,2 +1,3 @@
--- What the search of a tracer's part has found, turn by turn.
+-- What the searches have found, turn by turn.
 pub mod SearchLaws
+pub mod TestLaws

@@ -5,11 +5,13 @@ ghost use lib.ListN.{length};
 ghost use Rattle.rules.specs.Answers.{reading};
 ghost use Rattle.rules.specs.Field.{quadratic, faces, partLength, Admitted};
 ghost use Rattle.rules.specs.Calls.{windSound};
-ghost use Rattle.field_search.specs.Search.{searched};
-use field_elements::element::WEIGHTS;
+ghost use Rattle.field_search.specs.Search.{breaks, searched};
+use field_elements::element::number_weight;
 use rules::Reading;
 use rules::Refusal;
 use rules::Shape;
+use rules::element::NODES;
+use rules::element::NUMBERS;
 
 // A leaf: whether every stored wind is in its range.
 pub fn winds_sound(wind: &[i16], shape: Shape) -> bool
@@ -26,8 +28,22 @@ pub fn winds_sound(wind: &[i16], shape: Shape) -> bool
     true
 }
 
-// The largest total of a tracer.
+// The largest remainder of an element, and the largest total of a tracer.
+const LARGEST_REMAINDER: u64 = 35;
+
 pub const LIMIT: u64 = 100_000_000;
+
+// Whether a search of a tracer ends at number v of an element: x is a remainder above 35, or sum, the total with it, is above the limit.
+pub fn breaks(v: usize, x: u64, sum: u64) -> bool
+    ensures { λ r. ⌜ r ≡ breaks v x sum ⌝ }
+{
+    if v == NODES {
+        if LARGEST_REMAINDER < x {
+            return true;
+        }
+    }
+    LIMIT < sum
+}
 
 // A leaf: the total of a tracer's part; refusal 6 where a remainder is above 35 or the total above the limit.
 pub fn tracer_total(part: &[u32], shape: Shape) -> Reading
@@ -42,21 +58,15 @@ pub fn tracer_total(part: &[u32], shape: Shape) -> Reading
     let mut start = 0;
     'rows: for j in 0..ny {
         'elements: for i in 0..nx {
-            'numbers: for v in 0..10 {
+            'numbers: for v in 0..NUMBERS {
                 let x = part[start + v] as u64;
-                if v == 9 {
-                    if 35 < x {
-                        sound = false;
-                        break 'rows;
-                    }
-                }
-                sum += WEIGHTS[v] * x;
-                if LIMIT < sum {
+                sum += number_weight(v) * x;
+                if breaks(v, x, sum) {
                     sound = false;
                     break 'rows;
                 }
             }
-            start += 10;
+            start += NUMBERS;
         }
     }
     if sound {

@@ -1,4 +1,4 @@
--- One number as bytes: stores in a row, and two's complement at 16 bits.
+-- One number as bytes: stores in a row are one list written over another, and two's complement at 16 bits goes by the sign.
 use mathlib.Core.Path.{_≡_, refl, sym, ap, _∙_}
 use mathlib.Core.Bool.{true, false}
 use mathlib.Core.List.{List, [], _∷_, _++_, append-assoc}

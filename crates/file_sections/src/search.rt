@@ -4,9 +4,10 @@ ghost use Prim.Native.Nat.{_*_};
 ghost use lib.ListN.{length};
 ghost use Rattle.rules.specs.Field.{quadratic, partLength, sound, Admitted};
 ghost use Rattle.file_sections.specs.Numbers.{numbersOf};
-use field_elements::element::WEIGHTS;
-use field_search::LIMIT;
+use field_elements::element::number_weight;
+use field_search::breaks;
 use rules::Shape;
+use rules::element::NUMBERS;
 
 // A leaf: whether no remainder of a tracer's section is above 35 and the total is not above the limit. "The search by rows,
 // elements and numbers ends at the first break."
@@ -22,21 +23,15 @@ pub fn tracer_sound(section: &[u8], shape: Shape) -> bool
     let mut start = 0;
     'rows: for j in 0..ny {
         'elements: for i in 0..nx {
-            'numbers: for v in 0..10 {
+            'numbers: for v in 0..NUMBERS {
                 let x = file_numbers::number32(section, 4 * (start + v)) as u64;
-                if v == 9 {
-                    if 35 < x {
-                        sound = false;
-                        break 'rows;
-                    }
-                }
-                sum += WEIGHTS[v] * x;
-                if LIMIT < sum {
+                sum += number_weight(v) * x;
+                if breaks(v, x, sum) {
                     sound = false;
                     break 'rows;
                 }
             }
-            start += 10;
+            start += NUMBERS;
         }
     }
     sound

@@ -2,21 +2,21 @@
 // Every function here is a leaf that other crates call with numbers which they have bounded.
 ghost use mathlib.Core.Path.{_≡_};
 ghost use Prim.Native.Nat.{_*_, _≤_, _<_, _^_};
-ghost use lib.IntN.{ℤ, pos, _+ℤ_, _*ℤ_};
+ghost use lib.IntN.{pos, _*ℤ_};
 ghost use lib.ListN.{length};
 ghost use Rattle.whole.specs.Table.{at};
-ghost use Rattle.whole.specs.Bound.{Within, Are};
-ghost use Rattle.whole.specs.Parts.{positive};
-ghost use Rattle.whole.specs.Sum.{sum, sumℤ};
+ghost use Rattle.whole.specs.Bound.{Are};
+ghost use Rattle.whole.specs.Sum.{sumℤ};
 ghost use Rattle.rules.specs.Field.{quadratic, weighted};
 ghost use Rattle.rules.specs.Limiter.{meanShift, truncated, rescaled, closedUnlevelled, closed};
 ghost use Rattle.rules.specs.Sizes.{shiftSize, tentativeSize, levelledSize, targetSize};
 ghost use Rattle.limiter.specs.Sizes.{Tentative, Shift, shifted};
+use rules::element::NODES;
+use rules::element::node_weight;
+use rules::element::signed_weight;
 
-// The weights of the nine nodes, for values and for signed values.
-const WEIGHTS: [u64; 9] = [1, 4, 1, 4, 16, 4, 1, 4, 1];
-
-const SIGNED_WEIGHTS: [i64; 9] = [1, 4, 1, 4, 16, 4, 1, 4, 1];
+// The sum of the nodes' weights.
+const WEIGHT_SUM: i64 = 36;
 
 // The weighted sum of nine signed values.
 fn weighted_sum(psi: &[i64]) -> i64
@@ -24,8 +24,8 @@ fn weighted_sum(psi: &[i64]) -> i64
     ensures { λ r. ⌜ Are (36 * tentativeSize) r (sumℤ 9 (λ k. pos (quadratic .weight k) *ℤ at (now (psi .entry)) k)) ⌝ }
 {
     let mut sum: i64 = 0;
-    for k in 0..9 {
-        sum += SIGNED_WEIGHTS[k] * psi[k];
+    for k in 0..NODES {
+        sum += signed_weight(k) * psi[k];
     }
     sum
 }
@@ -37,16 +37,18 @@ fn mean_shift(psi: &[i64], target: u64) -> i64
     ensures { λ r. ⌜ Are shiftSize r (meanShift quadratic (at (now (psi .entry))) target) ⌝ }
 {
     let sum = weighted_sum(psi);
-    whole::floor_div((target as i64) - sum, 36)
+    whole::floor_div((target as i64) - sum, WEIGHT_SUM)
 }
 
-// A value after levelling and truncation.
-fn truncate(x: i64, shift: i64) -> u64
-    requires { ⌜ Within tentativeSize x ⌝ }
+// Value k after levelling and truncation.
+fn truncate(psi: &[i64], k: usize, shift: i64) -> u64
+    requires { ⌜ Tentative (now psi) ⌝ }
+    requires { ⌜ k < 9 ⌝ }
     requires { ⌜ Shift shift ⌝ }
-    ensures { λ r. ⌜ (r ≡ positive (x +ℤ shift)) × (r ≤ levelledSize) ⌝ }
+    ensures { λ r. ⌜ r ≡ truncated (shifted (now (psi .entry)) shift) k ⌝ }
+    ensures { λ r. ⌜ r ≤ levelledSize ⌝ }
 {
-    let y = x + shift;
+    let y = psi[k] + shift;
     if y < 0 {
         return 0;
     }
@@ -60,9 +62,9 @@ fn truncated_sum(psi: &[i64], shift: i64) -> u64
     ensures { λ r. ⌜ r ≡ weighted quadratic (truncated (shifted (now (psi .entry)) shift)) ⌝ }
 {
     let mut sum: u64 = 0;
-    for k in 0..9 {
-        let v = truncate(psi[k], shift);
-        sum += WEIGHTS[k] * v;
+    for k in 0..NODES {
+        let v = truncate(psi, k, shift);
+        sum += node_weight(k) * v;
     }
     sum
 }
@@ -85,13 +87,13 @@ fn close_shifted(part: &mut [u32], psi: &[i64], shift: i64, target: u64)
 {
     let p = truncated_sum(psi, shift);
     let mut sum: u64 = 0;
-    for k in 0..9 {
-        let v = truncate(psi[k], shift);
+    for k in 0..NODES {
+        let v = truncate(psi, k, shift);
         let y = rescale(p, target, v);
         part[k] = y as u32;
-        sum += WEIGHTS[k] * y;
+        sum += node_weight(k) * y;
     }
-    part[9] = (target - sum) as u32;
+    part[NODES] = (target - sum) as u32;
 }
 
 // The closing: an element's ten numbers from the nine values psi and the target.

@@ -43,3 +43,7 @@ row-room nx ny j h = omega (arith, mul-le-mul-right nx h, suc-mul j nx, mul-comm
 
 pub row-more : (nx j : ℕ) → (j + 1) * nx ≡ j * nx + nx
 row-more nx j = rw (add-one j) (suc-mul j nx)
+
+-- the last row ends with the last element
+pub all-rows : (g : Shape) (j : ℕ) → j ≡ g .ny → j * g .nx ≡ elements g
+all-rows g j e = rw e (mul-comm (g .ny) (g .nx))

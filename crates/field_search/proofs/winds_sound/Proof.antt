@@ -1,30 +1,19 @@
-use mathlib.Core.Path.{_≡_, refl, sym, ap, _∙_}
-use mathlib.Core.Bool.{true}
+use mathlib.Core.Path.{_≡_, sym, ap, _∙_}
 use borrow.Author.Needs.{needs}
-use borrow.Author.Tests.{not-true, not-false}
 use native.Mathlib.Omega.{arith}
-use Prim.Native.Nat.{_≤_, _-_}
+use Prim.Native.Nat.{_-_}
 use mir.Syntax.{w16}
 use mir.Facts.{toZ-ofZ}
-use Rattle.whole.specs.Sum.{all}
-use Rattle.rules.specs.Field.{faces}
 use Rattle.rules.specs.Calls.{windInRange, windAt, windSound}
-use Rattle.whole.proofs.SumLaws.{all-more, all-fails}
+use Rattle.field_search.proofs.TestLaws.{Passing, none-passed, next-passes, next-fails, all-passed}
 use Rattle.field_search.proofs.winds_sound.Statement.{statement}
 use Rattle.field_search.proofs.winds_sound.Tie as tie
 
 abbrev Inv-loop : tie.InvT-loop
-Inv-loop wind n f₀ f = (f ≤ n) × (all f (λ k. windInRange (windAt wind k)) ≡ true)
+Inv-loop wind n f₀ f = Passing (λ k. windInRange (windAt wind k)) n f
 
 abbrev μ-loop : tie.MeasureT-loop
 μ-loop wind n f₀ f = n - f
-
-faces-requires : tie.Need-faces-requires Inv-loop μ-loop
-faces-requires c κs = c .pre .0
-
-loop-holds : tie.Need-loop-holds Inv-loop μ-loop
-unfolding all
-loop-holds c = (omega arith, refl)
 
 shared-slice-copy-out-wind-in-range : tie.Need-shared-slice-copy-out-wind-in-range Inv-loop μ-loop
 shared-slice-copy-out-wind-in-range c = omega (arith, c .before .before .faces .ensures, c .before .before .before .pre .1)
@@ -36,19 +25,16 @@ tested c = c .wind-in-range .ensures ∙ ap windInRange (toZ-ofZ {w = w16} {z = 
 returns : tie.Need-returns Inv-loop μ-loop
 unfolding windSound
 returns c =
-    let w = c .before in
-    let n = w .before .before .before .before in
-    sym (all-fails (faces (n .before .args .shape)) (λ k. windInRange (windAt (n .before .args .wind .now) k)) (w .before .before .before .loop .f) (omega (arith, n .faces .ensures)) (sym (tested w) ∙ not-true _ (c .if1 .taken)))
+    let l = c .before .before .before .before in
+    let e = l .before .faces .ensures in
+    sym (next-fails (rw e at (l .loop .inv)) (omega arith) (tested (c .before)) (c .if1 .taken))
 
 loop-again : tie.Need-loop-again Inv-loop μ-loop
-loop-again c =
-    let w = c .before in
-    let l = w .before .before .before .loop in
-    (omega arith, all-more (l .f) (λ k. windInRange (windAt (w .before .before .before .before .before .args .wind .now) k)) (l .inv .1) (sym (tested w) ∙ not-false _ (c .if1 .left)))
+loop-again c = next-passes (c .before .before .before .before .loop .inv) (omega arith) (tested (c .before)) (c .if1 .left)
 
 returns-2 : tie.Need-returns-2 Inv-loop μ-loop
 unfolding windSound
-returns-2 c = let e : c .before .loop .f ≡ faces (c .before .before .before .args .shape) = omega (arith, c .before .before .faces .ensures) in sym (rw e at (c .before .loop .inv .1))
+returns-2 c = let e = c .before .before .faces .ensures in sym (all-passed (rw e at (c .before .loop .inv)) (omega arith))
 
 pub winds-sound-spec : {M : Type 1} → statement M
-winds-sound-spec = tie.close (tie.spec Inv-loop μ-loop faces-requires loop-holds (λ c. search needs) shared-slice-copy-out-wind-in-range (λ c κs. search needs) returns (λ c. search needs) (λ c. search needs) loop-again returns-2)
+winds-sound-spec = tie.close (tie.spec Inv-loop μ-loop (λ c κs. c .pre .0) (λ c. none-passed) (λ c. search needs) shared-slice-copy-out-wind-in-range (λ c κs. search needs) returns (λ c. search needs) (λ c. search needs) loop-again returns-2)

@@ -20,16 +20,4 @@ returns-2 c =
     number-high (a .bytes .now) (a .at) (c .before .joined16 .result) (c .before .joined16 .ensures) (c .if1 .left) (omega arith)
 
 pub number16-spec : {M : Type 1} → statement M
-number16-spec =
-    tie.close
-    (tie.spec
-    (λ c. search needs)
-    (λ c. search needs)
-    (λ c. search needs)
-    (λ c κs. search needs)
-    (λ c. search needs)
-    (λ c. search needs)
-    (λ c. search needs)
-    sub-result
-    returns
-    returns-2)
+number16-spec = tie.close (tie.spec (λ c. search needs) (λ c. search needs) (λ c. search needs) (λ c κs. search needs) (λ c. search needs) (λ c. search needs) (λ c. search needs) sub-result returns returns-2)

@@ -8,15 +8,4 @@ unfolding number32
 returns c = c .joined32 .ensures
 
 pub number32-spec : {M : Type 1} → statement M
-number32-spec =
-    tie.close
-    (tie.spec
-    (λ c. search needs)
-    (λ c. search needs)
-    (λ c. search needs)
-    (λ c. search needs)
-    (λ c. search needs)
-    (λ c. search needs)
-    (λ c. search needs)
-    (λ c κs. search needs)
-    returns)
+number32-spec = tie.close (tie.spec (λ c. search needs) (λ c. search needs) (λ c. search needs) (λ c. search needs) (λ c. search needs) (λ c. search needs) (λ c. search needs) (λ c κs. search needs) returns)

@@ -8,9 +8,6 @@ use Rattle.file_numbers.proofs.ByteLaws.{stored-2}
 use Rattle.file_numbers.proofs.put16.Statement.{statement}
 use Rattle.file_numbers.proofs.put16.Tie as tie
 
-slice-write-out-2 : tie.Need-slice-write-out-2
-slice-write-out-2 c = simp length-set (omega arith)
-
 returns : tie.Need-returns
 unfolding bytes16
 returns c =
@@ -19,14 +16,4 @@ returns c =
     rw e (stored-2 (b .args .out .now) (b .args .at) _ _ (b .pre))
 
 pub put16-spec : {M : Type 1} → statement M
-put16-spec =
-    tie.close
-    (tie.spec
-    (λ c κs. search needs)
-    (λ c. search needs)
-    (λ c. search needs)
-    (λ c. search needs)
-    (λ c. search needs)
-    slice-write-out-2
-    (λ c. search needs)
-    returns)
+put16-spec = tie.close (tie.spec (λ c κs. search needs) (λ c. search needs) (λ c. search needs) (λ c. search needs) (λ c. search needs) (λ c. simp length-set (omega arith)) (λ c. search needs) returns)

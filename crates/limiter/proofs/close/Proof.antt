@@ -6,13 +6,14 @@ use Rattle.whole.proofs.BoundLaws.{within-back}
 use Rattle.whole.proofs.Sizes.{back-is}
 use Rattle.rules.specs.Field.{quadratic}
 use Rattle.rules.specs.Limiter.{closed, adjusted, closedUnlevelled}
+use Rattle.rules.specs.Sizes.{shiftSize}
 use Rattle.limiter.specs.Sizes.{shifted}
 use Rattle.limiter.proofs.close.Statement.{statement}
 use Rattle.limiter.proofs.close.Tie as tie
 
 -- what levelling adds is small
-shift-small : (c : tie.After-mean-shift) → Within 9213888890 (c .mean-shift .result)
-shift-small c = subst (Within 9213888890) (sym (c .mean-shift .ensures .same)) (c .mean-shift .ensures .bound)
+shift-small : (c : tie.After-mean-shift) → Within shiftSize (c .mean-shift .result)
+shift-small c = subst (Within shiftSize) (sym (c .mean-shift .ensures .same)) (c .mean-shift .ensures .bound)
 
 close-shifted-requires : tie.Need-close-shifted-requires
 close-shifted-requires c κs =

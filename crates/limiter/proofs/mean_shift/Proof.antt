@@ -13,11 +13,12 @@ use Rattle.whole.proofs.BoundLaws.{within-le, within-sub, within-floor, within-
 use Rattle.whole.proofs.Sizes.{sizes, exacts, fits, within, exact, back-is}
 use Rattle.rules.specs.Field.{quadratic, weightSum}
 use Rattle.rules.specs.Limiter.{meanShift}
+use Rattle.rules.specs.Sizes.{shiftSize, targetSize}
 use Rattle.limiter.proofs.mean_shift.Statement.{statement}
 use Rattle.limiter.proofs.mean_shift.Tie as tie
 
 -- the target as a signed number, and the difference that is divided
-target-is : (c : tie.After-weighted-sum) → Are 500000000 (toZ w64 (c .before .args .target)) (pos (c .before .args .target))
+target-is : (c : tie.After-weighted-sum) → Are targetSize (toZ w64 (c .before .args .target)) (pos (c .before .args .target))
 target-is c = record { same = toZ-pos w64 (omega (arith, c .before .pre .1)); bound = record { within = c .before .pre .1 } }
 
 difference : (c : tie.After-weighted-sum) → toZ w64 (ofZ w64 (toZ w64 (c .before .args .target) -ℤ toZ w64 (ofZ w64 (c .weighted-sum .result)))) ≡ pos (c .before .args .target) -ℤ sumℤ 9 (λ k. pos (quadratic .weight k) *ℤ at (c .before .args .psi .now) k)
@@ -35,7 +36,7 @@ returns c =
     let b = c .before in
     let p = b .before .args .psi .now in
     let d = pos (b .before .args .target) -ℤ sumℤ 9 (λ k. pos (quadratic .weight k) *ℤ at p k) in
-    let small : Within 9213888890 (floorDiv d 36) = within-floor d 36 9213888890 (omega arith) (within-le (within-sub (target-is b .bound) (b .weighted-sum .ensures .bound)) (omega arith)) in
+    let small : Within shiftSize (floorDiv d 36) = within-floor d 36 shiftSize (omega arith) (within-le (within-sub (target-is b .bound) (b .weighted-sum .ensures .bound)) (omega arith)) in
     let e : c .floor-div .result ≡ floorDiv d 36 = c .floor-div .ensures ∙ ap (λ z. floorDiv z 36) (difference b) in
     record { same = ap (λ z. toZ w64 (ofZ w64 z)) e ∙ back-is w64 (floorDiv d 36) small tt; bound = small }
 

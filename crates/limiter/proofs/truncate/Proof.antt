@@ -1,39 +1,57 @@
 use mathlib.Core.Path.{_≡_, sym, ap, _∙_}
-use Prim.Native.Nat.{_≤_}
+use borrow.Author.Needs.{needs}
 use native.Mathlib.Omega.{arith}
 use lib.IntN.{pos, natAbs, _+ℤ_}
 use mir.Syntax.{w64}
 use mir.Val.{toZ, ofZ}
-use Rattle.whole.specs.Parts.{positive}
-use Rattle.whole.proofs.WholeLaws.{positive-below, above-positive, positive-le}
-use Rattle.whole.proofs.BoundLaws.{within-add}
+use Rattle.whole.specs.Bound.{Within}
+use Rattle.whole.specs.Table.{at}
+use Rattle.whole.proofs.WholeLaws.{positive-below, above-positive}
 use Rattle.whole.proofs.FloorLaws.{less-yes, less-no}
 use Rattle.whole.proofs.Sizes.{sizes, exacts, exacts-wide, fits, exact, exact-test}
+use Rattle.rules.specs.Limiter.{truncated}
+use Rattle.rules.specs.Sizes.{tentativeSize}
+use Rattle.limiter.specs.Sizes.{shifted}
+use Rattle.limiter.proofs.Laws.{cutValue, cutValue-le}
 use Rattle.limiter.proofs.truncate.Statement.{statement}
 use Rattle.limiter.proofs.truncate.Tie as tie
 
--- the sum of the two, as the machine reads it back
-sum-is : (c : tie.Start) → toZ w64 (ofZ w64 (toZ w64 (ofZ w64 (c .args .x)) +ℤ toZ w64 (ofZ w64 (c .args .shift)))) ≡ c .args .x +ℤ c .args .shift
-sum-is c = let h = c .pre .1 .small in exact (search exacts depth 20) tt
+-- the value that is read
+value : (c : tie.Start) → Within tentativeSize (at (c .args .psi .now) (c .args .k))
+value c = c .pre .0 .small (c .args .k) (c .pre .1 .0)
 
-size : (c : tie.Start) → positive (c .args .x +ℤ c .args .shift) ≤ 18413888890
-size c = omega (arith, positive-le (c .args .x +ℤ c .args .shift), within-add (c .pre .0) (c .pre .1 .small) .within)
+-- its sum with the shift, as the machine reads it back
+sum-is : (c : tie.Start) → toZ w64 (ofZ w64 (toZ w64 (ofZ w64 (at (c .args .psi .now) (c .args .k))) +ℤ toZ w64 (ofZ w64 (c .args .shift)))) ≡ shifted (c .args .psi .now) (c .args .shift) (c .args .k)
+sum-is c = let v = value c in let h = c .pre .1 .1 .small in exact (search exacts depth 20) tt
 
 add-y : tie.Need-add-y
-add-y c = let h = c .pre .1 .small in fits (search sizes depth 20) tt
+add-y c = let b = c .before in let v = value b in let h = b .pre .1 .1 .small in fits (search sizes depth 20) tt
 
 returns : tie.Need-returns
-returns c = let h = c .before .pre .1 .small in (sym (positive-below _ (less-yes (c .if1 .taken) (exact-test (search exacts-wide depth 20) tt))), omega arith)
+unfolding truncated
+returns c =
+    let b = c .before .before in
+    let v = value b in
+    let h = b .pre .1 .1 .small in
+    (sym (positive-below (shifted (b .args .psi .now) (b .args .shift) (b .args .k)) (less-yes (c .if1 .taken) (exact-test (search exacts-wide depth 20) tt))), omega arith)
 
 -- it is not below 0
-above : (c : tie.Else1) → c .before .args .x +ℤ c .before .args .shift ≡ pos (positive (c .before .args .x +ℤ c .before .args .shift))
-above c = let h = c .before .pre .1 .small in above-positive _ (less-no (c .if1 .left) (exact-test (search exacts-wide depth 20) tt))
+above : (c : tie.Else1) → shifted (c .before .before .args .psi .now) (c .before .before .args .shift) (c .before .before .args .k) ≡ pos (cutValue (c .before .before .args .psi .now) (c .before .before .args .shift) (c .before .before .args .k))
+unfolding truncated
+above c =
+    let b = c .before .before in
+    let v = value b in
+    let h = b .pre .1 .1 .small in
+    above-positive _ (less-no (c .if1 .left) (exact-test (search exacts-wide depth 20) tt))
 
 cast-result : tie.Need-cast-result
-cast-result c = rw (sum-is (c .before) ∙ above c) (tt, record { fits = omega (arith, size (c .before)) })
+cast-result c = let b = c .before .before in rw (sum-is b ∙ above c) (tt, record { fits = omega (arith, cutValue-le (b .args .psi .now) (b .args .shift) (b .pre .0) (b .pre .1 .1) (b .args .k) (b .pre .1 .0)) })
 
 returns-2 : tie.Need-returns-2
-returns-2 c = let e = ap natAbs (sum-is (c .before) ∙ above c) in (e, omega (arith, e, size (c .before)))
+returns-2 c =
+    let b = c .before .before in
+    let e = ap natAbs (sum-is b ∙ above c) in
+    (e, omega (arith, e, cutValue-le (b .args .psi .now) (b .args .shift) (b .pre .0) (b .pre .1 .1) (b .args .k) (b .pre .1 .0)))
 
 pub truncate-spec : {M : Type 1} → statement M
-truncate-spec = tie.close (tie.spec add-y returns cast-result returns-2)
+truncate-spec = tie.close (tie.spec (λ c. search needs) (λ c. search needs) add-y returns cast-result returns-2)

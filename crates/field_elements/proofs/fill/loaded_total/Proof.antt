@@ -8,12 +8,13 @@ use Rattle.whole.proofs.SumLaws.{sum-more}
 use Rattle.rules.specs.Field.{quadratic, weighted}
 use Rattle.rules.specs.Calls.{loadedValue}
 use Rattle.whole.proofs.OverwriteLaws.{part-size}
+use Rattle.field_elements.specs.Weighing.{mostWeighed}
 use Rattle.field_elements.proofs.LoadLaws.{weighed-part}
 use Rattle.field_elements.proofs.fill.loaded_total.Statement.{statement}
 use Rattle.field_elements.proofs.fill.loaded_total.Tie as tie
 
 abbrev Inv-loop : tie.InvT-loop
-Inv-loop numbers n sum₀ start₀ e₀ sum start e = (e ≤ n) × (start ≡ e * 9) × (sum ≡ Rattle.whole.specs.Sum.sum e (λ i. weighted quadratic (loadedValue quadratic numbers i))) × (sum ≤ e * 687194767360)
+Inv-loop numbers n sum₀ start₀ e₀ sum start e = (e ≤ n) × (start ≡ e * 9) × (sum ≡ Rattle.whole.specs.Sum.sum e (λ i. weighted quadratic (loadedValue quadratic numbers i))) × (sum ≤ e * mostWeighed)
 
 abbrev μ-loop : tie.MeasureT-loop
 μ-loop numbers n sum₀ start₀ e₀ sum start e = n - e
