@@ -1,3 +1,4 @@
+-- The sum over a line of nodes: the invariant is the sum of the terms so far, and `terms-within` bounds it at every turn.
 use mathlib.Core.Path.{_≡_, refl, sym, _∙_}
 use Prim.Native.Nat.{_≤_, _-_, _*_}
 use borrow.Author.Needs.{needs}
@@ -11,10 +12,11 @@ use Rattle.whole.proofs.SumLaws.{sumℤ-more}
 use Rattle.whole.proofs.Sizes.{sizes, exacts, fits, exact, are-eq}
 use Rattle.step_tendency.proofs.Laws.{term, terms-are, terms-within}
 use Rattle.step_tendency.proofs.along.Statement.{statement}
+use Rattle.step_tendency.specs.Sizes.{lineSumSize}
 use Rattle.step_tendency.proofs.along.Tie as tie
 
 abbrev Inv-loop : tie.InvT-loop
-Inv-loop c v start stride place x₀ q₀ x q = (q ≤ 3) × Are 752025600000000 (toZ w64 x) (sumℤ q (term c v start stride place))
+Inv-loop c v start stride place x₀ q₀ x q = (q ≤ 3) × Are lineSumSize (toZ w64 x) (sumℤ q (term c v start stride place))
 
 abbrev μ-loop : tie.MeasureT-loop
 μ-loop c v start stride place x₀ q₀ x q = 3 - q

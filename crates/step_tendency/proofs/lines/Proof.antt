@@ -1,3 +1,4 @@
+-- X (or Y) at every node: the invariant is the lines so far, three numbers each, and `rows-are` says that all of them are the rules' advection.
 use mathlib.Core.Path.{_≡_, refl, sym, ap, ap₂, subst, _∙_}
 use mathlib.Core.List.{_++_, append-nil}
 use Prim.Native.Nat.{_≤_, _-_, _+_, _*_}
@@ -16,6 +17,7 @@ use Rattle.whole.proofs.Sizes.{sizes, exacts, fits, within, exact}
 use Rattle.step_tendency.specs.Line.{lineAt, lineNodes}
 use Rattle.step_tendency.proofs.Laws.{lineRow, rows-are, weighedWind-within}
 use Rattle.step_tendency.proofs.lines.Statement.{statement}
+use Rattle.step_tendency.specs.Sizes.{placeWindSize}
 use Rattle.step_tendency.proofs.lines.Tie as tie
 
 abbrev Inv-loop : tie.InvT-loop
@@ -58,11 +60,11 @@ reach : (c : tie.After-x Inv-loop μ-loop) → c .before .before .before .before
 reach c = mul-le-mul-left (c .before .before .before .before .before .before .args .step) (omega arith)
 
 -- the winds of the places
-winds : (c : tie.After-x Inv-loop μ-loop) → AllWithin 8192 (c .before .before .before .before .before .place-winds .result)
+winds : (c : tie.After-x Inv-loop μ-loop) → AllWithin placeWindSize (c .before .before .before .before .before .place-winds .result)
 winds c =
     let b = c .before .before .before .before .before .before in
     let h = b .pre in
-    subst (λ l. AllWithin 8192 l) (sym (c .before .before .before .before .before .place-winds .ensures)) (weighedWind-within _ _ (within (search sizes depth 20) tt) (within (search sizes depth 20) tt))
+    subst (λ l. AllWithin placeWindSize l) (sym (c .before .before .before .before .before .place-winds .ensures)) (weighedWind-within _ _ (within (search sizes depth 20) tt) (within (search sizes depth 20) tt))
 
 mul-line : tie.Need-mul-line Inv-loop μ-loop
 mul-line c = record { fits = omega (arith, reach (c .before)) }
