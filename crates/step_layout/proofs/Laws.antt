@@ -1,12 +1,12 @@
 -- How large work's places are, and where stages end.
 use mathlib.Core.Path.{_≡_}
-use Prim.Native.Nat.{ℕ, _+_, _*_, _≤_, _<_}
-use native.Mathlib.Nat.{suc-mul, mul-le-mul}
+use Prim.Native.Nat.{ℕ, _+_, _≤_, _<_}
+use native.Mathlib.Nat.{suc-mul}
 use native.Mathlib.Numerals.{add-one}
 use native.Mathlib.Omega.{arith}
 use Rattle.whole.proofs.OverwriteLaws.{part-room}
 use Rattle.rules.specs.declared.Shape.{Shape}
-use Rattle.rules.specs.Field.{elements, workNeeded, Admitted}
+use Rattle.rules.specs.Field.{workNeeded, Admitted}
 use Rattle.rules.proofs.ShapeLaws.{elements-le}
 use Rattle.step_layout.specs.Sections.{stageLength, stageStart, sumsStart, workUsed}
 

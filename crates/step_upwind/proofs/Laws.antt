@@ -1,4 +1,5 @@
--- Upwind values of a stage that is a list: where they stand.
+-- Where upwind values stand in a stage that is a list: a line's start is computed from the wind's sign, as the machine does it; what holds of
+-- each of the four sides is shown side by side.
 use mathlib.Core.Path.{_≡_, refl, sym, ap, subst, _∙_}
 use mathlib.Core.Bool.{Bool, cond}
 use Prim.Native.Nat.{ℕ, zero, suc, _+_, _*_, _-_, _/_, _<_}
@@ -22,7 +23,7 @@ use Rattle.rules.specs.declared.Shape.{Shape}
 use Rattle.rules.specs.Field.{elements}
 use Rattle.step_grid.specs.Place.{Placed}
 use Rattle.step_upwind.specs.Upwind.{sign, behinds, aheads, lasts, strides, upwindStart}
-use Rattle.rules.proofs.GridLaws.{west-lt, east-lt, south-lt, north-lt}
+use Rattle.step_grid.proofs.PlaceLaws.{west-in, east-in, south-in, north-in}
 
 -- ---- where a face's values begin, by the sign of its wind
 pub sign-is : (c : ℤ) → leZ (pos 0) c ≡ nonNeg c
@@ -84,11 +85,11 @@ module _ (g : Shape) (e : ℕ) (h : Placed g e) where
   -- the elements at the four sides are on the grid
   pub behind-inside : (s : ℕ) → s < 4 → getD (behinds g e) s 0 < elements g
   behind-inside = four (λ s. getD (behinds g e) s 0 < elements g)
-      (west-lt g (h .admits .nx-above) (h .admits .ny-above) e (h .inside)) (h .inside) (south-lt g (h .admits .nx-above) (h .admits .ny-above) e (h .inside)) (h .inside)
+      (west-in h) (h .inside) (south-in h) (h .inside)
 
   pub ahead-inside : (s : ℕ) → s < 4 → getD (aheads g e) s 0 < elements g
   ahead-inside = four (λ s. getD (aheads g e) s 0 < elements g)
-      (h .inside) (east-lt g (h .admits .nx-above) (h .admits .ny-above) e (h .inside)) (h .inside) (north-lt g (h .admits .nx-above) (h .admits .ny-above) e (h .inside))
+      (h .inside) (east-in h) (h .inside) (north-in h)
 
 pub last-lt : (s : ℕ) → getD lasts s 0 < 9
 last-lt zero = omega arith
@@ -97,7 +98,10 @@ last-lt (suc (suc zero)) = omega arith
 last-lt (suc (suc (suc zero))) = omega arith
 last-lt (suc (suc (suc (suc s)))) = omega arith
 
--- the step along a line, as the code computes it
-pub stride-is : (m : ℕ) → m < 12 → 3 - 2 * (m / 6) ≡ getD strides (m / 3) 0
+-- the step along the line of upwind value m, as the code computes it
+abbrev pub stride : ℕ → ℕ
+stride m = 3 - 2 * (m / 3 / 2)
+
+pub stride-is : (m : ℕ) → m < 12 → stride m ≡ getD strides (m / 3) 0
 unfolding all
-stride-is m h = eqb→eq (3 - 2 * (m / 6)) (getD strides (m / 3) 0) (all-at 12 (λ m. eqb (3 - 2 * (m / 6)) (getD strides (m / 3) 0)) tt m h)
+stride-is m h = eqb→eq (stride m) (getD strides (m / 3) 0) (all-at 12 (λ m. eqb (stride m) (getD strides (m / 3) 0)) tt m h)

@@ -1,12 +1,13 @@
+-- The four winds are read at places that the element, its west and its south neighbour own; each is widened from 16 bits.
 use mathlib.Core.Path.{ap, _∙_}
 use mathlib.Core.List.{[], _∷_}
-use Prim.Native.Nat.{_<_, _+_, _*_}
+use Prim.Native.Nat.{_+_, _*_}
 use borrow.Author.Needs.{needs}
 use native.Mathlib.Omega.{arith}
 use Rattle.whole.proofs.Sizes.{sizes-wide, fits, widened}
 use Rattle.rules.specs.Calls.{windAt}
-use Rattle.rules.proofs.GridLaws.{west-lt, south-lt}
 use Rattle.rules.proofs.ShapeLaws.{elements-le}
+use Rattle.step_grid.proofs.PlaceLaws.{FaceOwners, face-owners}
 use Rattle.step_upwind.proofs.side_winds.Statement.{statement}
 use Rattle.step_upwind.proofs.side_winds.Tie as tie
 
@@ -20,22 +21,17 @@ south-requires : tie.Need-south-requires
 south-requires c κs = c .before .before .pre .0
 
 -- the four faces are there
-inside : (c : tie.After-south) → (c .before .west .result < c .before .before .before .args .shape .nx * c .before .before .before .args .shape .ny) × (c .south .result < c .before .before .before .args .shape .nx * c .before .before .before .args .shape .ny)
-inside c =
-    let b = c .before .before .before in
-    let f = b .pre .0 .admits in (
-      omega (arith, c .before .west .ensures, west-lt (b .args .shape) (f .nx-above) (f .ny-above) (b .args .e) (b .pre .0 .inside)),
-      omega (arith, c .south .ensures, south-lt (b .args .shape) (f .nx-above) (f .ny-above) (b .args .e) (b .pre .0 .inside)),
-    )
+inside : (c : tie.After-south) → FaceOwners (c .before .before .before .args .shape) (c .before .before .before .args .e) (c .before .west .result) (c .south .result)
+inside c = face-owners (c .before .before .before .pre .0) (c .before .west .ensures) (c .south .ensures)
 
 add-south : tie.Need-add-south
-add-south c = let b = c .before .before .before in record { fits = omega (arith, inside c, elements-le (b .args .shape) (b .pre .0 .admits)) }
+add-south c = record { fits = omega (arith, inside c) }
 
 add-north : tie.Need-add-north
-add-north c = let b = c .before .before .before in record { fits = omega (arith, b .pre .0 .inside, elements-le (b .args .shape) (b .pre .0 .admits)) }
+add-north c = record { fits = omega (arith, inside c) }
 
 mul-t8 : tie.Need-mul-t8
-mul-t8 c = let b = c .before .before .before in record { fits = omega (arith, inside c, elements-le (b .args .shape) (b .pre .0 .admits)) }
+mul-t8 c = record { fits = omega (arith, inside c) }
 
 shared-slice-copy-out-t10 : tie.Need-shared-slice-copy-out-t10
 shared-slice-copy-out-t10 c = omega (arith, inside c, c .before .before .before .pre .1 .long)
@@ -50,7 +46,7 @@ cast-t15 : tie.Need-cast-t15
 cast-t15 c = let h = c .t14 .given in fits (search sizes-wide depth 20) tt
 
 mul-t16 : tie.Need-mul-t16
-mul-t16 c = let b = c .before .before .before .before .before in record { fits = omega (arith, inside (c .before .before), elements-le (b .args .shape) (b .pre .0 .admits)) }
+mul-t16 c = record { fits = omega (arith, inside (c .before .before)) }
 
 shared-slice-copy-out-t18 : tie.Need-shared-slice-copy-out-t18
 shared-slice-copy-out-t18 c = let b = c .before .before .before .before .before in omega (arith, inside (c .before .before), b .pre .1 .long)

@@ -1,3 +1,5 @@
+-- Where the upwind lines of the four sides begin: the invariant is the table filled as far as the turn, of the elements behind and ahead as
+-- the code's two arrays have them.
 use mathlib.Core.Path.{_≡_, refl, sym, ap, subst, _∙_}
 use mathlib.Core.List.{List, [], _∷_, _++_, append-nil}
 use Prim.Native.Nat.{ℕ, _≤_, _<_, _-_, _+_}
@@ -11,6 +13,7 @@ use Rattle.step_upwind.specs.Upwind.{behinds, aheads, lasts, upwindStart
 use Rattle.step_upwind.proofs.Laws.{behind-inside, ahead-inside, last-lt}
 use Rattle.step_upwind.proofs.starts.Statement.{statement}
 use Rattle.rules.proofs.ShapeLaws.{elements-le}
+use Rattle.rules.specs.Sizes.{mostElements}
 use Rattle.step_upwind.proofs.starts.Tie as tie
 
 abbrev Inv-loop : tie.InvT-loop
@@ -48,9 +51,9 @@ upwind-start-requires c κs =
     let b = n .before .before .before .before in
     let s = c .before .before .loop .side in
     let small = elements-le (b .args .shape) (b .pre .admits) in (
-      subst (λ (l : List ℕ). getD l s 0 < 4096) (sym (behind-is n)) (omega (arith, small, behind-inside (b .args .shape) (b .args .e) (b .pre) s (omega arith))),
+      subst (λ (l : List ℕ). getD l s 0 < mostElements) (sym (behind-is n)) (omega (arith, small, behind-inside (b .args .shape) (b .args .e) (b .pre) s (omega arith))),
       (
-        subst (λ (l : List ℕ). getD l s 0 < 4096) (sym (ahead-is n)) (omega (arith, small, ahead-inside (b .args .shape) (b .args .e) (b .pre) s (omega arith))),
+        subst (λ (l : List ℕ). getD l s 0 < mostElements) (sym (ahead-is n)) (omega (arith, small, ahead-inside (b .args .shape) (b .args .e) (b .pre) s (omega arith))),
         last-lt s,
       ),
     )

@@ -6,6 +6,7 @@ use native.Mathlib.Omega.{arith}
 use Rattle.whole.specs.Bound.{AllWithin}
 use Rattle.whole.specs.Table.{table, at}
 use Rattle.rules.specs.Calls.{windAt}
+use Rattle.rules.specs.Sizes.{stageSize}
 use Rattle.step_tendency.specs.Line.{localTendency}
 use Rattle.step_upwind.specs.Upwind.{sideWinds, sideStart, upwindPlace, Reached}
 use Rattle.step_upwind.proofs.TendencyLaws.{gathered, reached, winds-small, picked-small}
@@ -35,10 +36,10 @@ tendencies-requires : tie.Need-tendencies-requires
 tendencies-requires c κs =
     let b = c .before .before .before .before .before .before .before .before .before in
     let a = b .args in (
-      subst (AllWithin 1700000000) (sym (c .before .before .before .values .ensures)) (picked-small 9 (a .phi .now) (λ k. a .e * 9 + k) (b .pre .1 .1 .0)),
+      subst (AllWithin stageSize) (sym (c .before .before .before .values .ensures)) (picked-small 9 (a .phi .now) (λ k. a .e * 9 + k) (b .pre .1 .1 .0)),
       (
         subst (AllWithin 1024) (sym (c .before .before .before .before .before .before .before .before .side-winds .ensures)) (winds-small (a .shape) (a .wind .now) (a .e) (b .pre .0) (b .pre .1 .1 .1)),
-        subst (AllWithin 1700000000) (sym (c .before .before .before .before .upwind-values .ensures)) (picked-small 12 (a .phi .now) (upwindPlace (c .before .before .before .before .before .before .starts .result)) (b .pre .1 .1 .0)),
+        subst (AllWithin stageSize) (sym (c .before .before .before .before .upwind-values .ensures)) (picked-small 12 (a .phi .now) (upwindPlace (c .before .before .before .before .before .before .starts .result)) (b .pre .1 .1 .0)),
       ),
     )
 
