@@ -1,14 +1,19 @@
--- How large work's places are, and where stages end.
-use mathlib.Core.Path.{_≡_}
+-- How large work's places are, where stages end, and what is lent of work.
+use mathlib.Core.Path.{_≡_, ap, _∙_}
+use mathlib.Core.List.{List}
 use Prim.Native.Nat.{ℕ, _+_, _≤_, _<_}
 use native.Mathlib.Nat.{suc-mul}
 use native.Mathlib.Numerals.{add-one}
 use native.Mathlib.Omega.{arith}
+use lib.IntN.{ℤ}
+use lib.ListN.{length, take, drop}
+use Rattle.whole.specs.Written.{Apart, Written}
 use Rattle.whole.proofs.OverwriteLaws.{part-room}
+use Rattle.whole.proofs.WrittenLaws.{part-kept}
 use Rattle.rules.specs.declared.Shape.{Shape}
 use Rattle.rules.specs.Field.{workNeeded, Admitted}
 use Rattle.rules.proofs.ShapeLaws.{elements-le}
-use Rattle.step_layout.specs.Sections.{stageLength, stageStart, sumsStart, workUsed}
+use Rattle.step_layout.specs.Sections.{stageLength, stageStart, workUsed}
 
 module _ (g : Shape) where
   -- what is used is there, and its places are small
@@ -18,9 +23,14 @@ module _ (g : Shape) where
   pub places-le : Admitted g → workUsed g ≤ 200704
   places-le h = omega (arith, elements-le g h)
 
-  -- stage m ends where the next one starts, and before the sums
+  -- a stage ends where the next one starts, and before every later one
   pub next-stage : (m : ℕ) → stageStart g (m + 1) ≡ stageStart g m + stageLength g
   next-stage m = rw (add-one m) (suc-mul m (stageLength g))
 
-  pub stage-ends : (m : ℕ) → m < 4 → stageStart g m + stageLength g ≤ sumsStart g
-  stage-ends m h = part-room (stageLength g) {s = m} {n = 4} h
+  pub stage-ends : {m k : ℕ} → m < k → stageStart g m + stageLength g ≤ stageStart g k
+  stage-ends h = part-room (stageLength g) h
+
+-- a section that two written stretches leave alone, lent from place s′, where s′ and its length k are only equal to the section's
+pub lent-kept : {a b n : ℕ} {f h : ℕ → ℤ} {old new : List ℤ} (s w s′ k : ℕ) → s′ ≡ s → k ≡ w → Written a b n f h old new → s + w ≤ length old
+    → ((i : ℕ) → s ≤ i → i < s + w → Apart a n i) → ((i : ℕ) → s ≤ i → i < s + w → Apart b n i) → take k (drop s′ new) ≡ take w (drop s old)
+lent-kept {new = new} s w s′ k es ek p room apart apart′ = ap (λ x. take k (drop x new)) es ∙ part-kept s w k p ek room apart apart′

@@ -7,7 +7,7 @@ use Rattle.step_layout.proofs.stage_start.Statement.{statement}
 use Rattle.step_layout.proofs.stage_start.Tie as tie
 
 mul-result : tie.Need-mul-result
-mul-result c = let b = c .before in record { fits = omega (arith, ap (λ n. b .args .m * n) (c .stage-length .ensures), stage-ends (b .args .shape) (b .args .m) (b .pre .1), places-le (b .args .shape) (b .pre .0)) }
+mul-result c = let b = c .before in record { fits = omega (arith, ap (λ n. b .args .m * n) (c .stage-length .ensures), stage-ends (b .args .shape) (b .pre .1), places-le (b .args .shape) (b .pre .0)) }
 
 returns : tie.Need-returns
 returns c = ap (λ n. c .before .args .m * n) (c .stage-length .ensures)

@@ -1,3 +1,5 @@
+-- One element's sums and values of the next stage: the invariant is both stretches of work, written as far as the turn's node. The machine's
+-- numbers are the definition's, since each is within its size.
 use mathlib.Core.Path.{_≡_, sym, ap, ap₂, subst, _∙_}
 use Prim.Native.Nat.{_≤_, _-_, _+_, _*_}
 use borrow.Author.Needs.{needs}
@@ -14,6 +16,8 @@ use Rattle.whole.proofs.Sizes.{sizes, exacts, fits, within, exact, are-eq, are-
 use Rattle.step_stages.specs.Advance.{divisor, elementSums, elementValues}
 use Rattle.step_stages.proofs.Laws.{factors, factor-is}
 use Rattle.step_stages.proofs.advance_element.Statement.{statement}
+use Rattle.rules.specs.Sizes.{earlierSumSize}
+use Rattle.rules.specs.Field.{limit}
 use Rattle.step_stages.proofs.advance_element.Tie as tie
 
 abbrev Inv-loop : tie.InvT-loop
@@ -29,14 +33,14 @@ loop-holds c = (omega arith, written-none _ _ _ _ _)
 value-is : (c : tie.In-loop Inv-loop μ-loop) → at (c .before .loop .work) (c .before .before .args .from + c .before .loop .k) ≡ at (c .before .before .args .work .now) (c .before .before .args .from + c .before .loop .k)
 value-is c = let h = c .before .before .pre .0 in c .before .loop .inv .1 .kept _ (λ p q. omega (arith, h .before)) (λ p q. omega (arith, h .before, h .between))
 
-value-small : (c : tie.In-loop Inv-loop μ-loop) → Within 100000000 (at (c .before .loop .work) (c .before .before .args .from + c .before .loop .k))
-value-small c = subst (λ (z : ℤ). Within 100000000 z) (sym (value-is c)) (c .before .before .pre .0 .values (c .before .loop .k) (omega arith))
+value-small : (c : tie.In-loop Inv-loop μ-loop) → Within limit (at (c .before .loop .work) (c .before .before .args .from + c .before .loop .k))
+value-small c = subst (λ (z : ℤ). Within limit z) (sym (value-is c)) (c .before .before .pre .0 .values (c .before .loop .k) (omega arith))
 
 sum-is : (c : tie.In-loop Inv-loop μ-loop) → at (c .before .loop .work) (c .before .before .args .sums + c .before .loop .k) ≡ at (c .before .before .args .work .now) (c .before .before .args .sums + c .before .loop .k)
 sum-is c = let h = c .before .before .pre .0 in c .before .loop .inv .1 .kept _ (λ p q. omega (arith, h .between)) (λ p q. omega arith)
 
-sum-small : (c : tie.In-loop Inv-loop μ-loop) → Within 6300000000 (at (c .before .loop .work) (c .before .before .args .sums + c .before .loop .k))
-sum-small c = subst (λ (z : ℤ). Within 6300000000 z) (sym (sum-is c)) (c .before .before .pre .0 .small (c .before .loop .k) (omega arith))
+sum-small : (c : tie.In-loop Inv-loop μ-loop) → Within earlierSumSize (at (c .before .loop .work) (c .before .before .args .sums + c .before .loop .k))
+sum-small c = subst (λ (z : ℤ). Within earlierSumSize z) (sym (sum-is c)) (c .before .before .pre .0 .small (c .before .loop .k) (omega arith))
 
 room : (c : tie.In-loop Inv-loop μ-loop) → (c .before .before .args .sums + 9 ≤ length (c .before .loop .work)) × (c .before .before .args .to + 9 ≤ c .before .before .args .sums) × (c .before .before .args .from + 9 ≤ c .before .before .args .to)
 room c = let h = c .before .before .pre .0 in (omega (arith, h .room, c .before .loop .inv .1 .long), h .between, h .before)

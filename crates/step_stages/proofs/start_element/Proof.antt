@@ -1,3 +1,4 @@
+-- One element's stored values and zero sums: the invariant is both stretches of work, written as far as the turn's node.
 use mathlib.Core.Path.{_≡_, refl}
 use Prim.Native.Nat.{_≤_, _-_, _+_}
 use borrow.Author.Needs.{needs}
