@@ -1,7 +1,7 @@
 -- How large work's places are, where stages end, and what is lent of work.
 use mathlib.Core.Path.{_≡_, ap, _∙_}
 use mathlib.Core.List.{List}
-use Prim.Native.Nat.{ℕ, _+_, _≤_, _<_}
+use Prim.Native.Nat.{ℕ, _+_, _*_, _≤_, _<_}
 use native.Mathlib.Nat.{suc-mul}
 use native.Mathlib.Numerals.{add-one}
 use native.Mathlib.Omega.{arith}
@@ -12,15 +12,20 @@ use Rattle.whole.proofs.OverwriteLaws.{part-room}
 use Rattle.whole.proofs.WrittenLaws.{part-kept}
 use Rattle.rules.specs.declared.Shape.{Shape}
 use Rattle.rules.specs.Field.{workNeeded, Admitted}
+use Rattle.rules.specs.Sizes.{mostElements}
 use Rattle.rules.proofs.ShapeLaws.{elements-le}
 use Rattle.step_layout.specs.Sections.{stageLength, stageStart, workUsed}
+
+-- the numbers that a step uses on the largest grid
+abbrev pub mostUsed : ℕ
+mostUsed = 49 * mostElements
 
 module _ (g : Shape) where
   -- what is used is there, and its places are small
   pub used-le : workUsed g ≤ workNeeded g
   used-le = omega arith
 
-  pub places-le : Admitted g → workUsed g ≤ 200704
+  pub places-le : Admitted g → workUsed g ≤ mostUsed
   places-le h = omega (arith, elements-le g h)
 
   -- a stage ends where the next one starts, and before every later one

@@ -1,5 +1,7 @@
+-- An element's outflow: four fluxes are read at places that the element, its west and its south neighbour own, and the machine's sum of
+-- their parts is the definition's (`added`).
 use mathlib.Core.Path.{_≡_, ap, _∙_}
-use Prim.Native.Nat.{_≤_, _<_, _+_}
+use Prim.Native.Nat.{_+_}
 use native.Mathlib.Omega.{arith}
 use lib.IntN.{pos}
 use lib.ListN.{length}
@@ -7,9 +9,9 @@ use mir.Syntax.{w64}
 use Rattle.whole.specs.Table.{at}
 use Rattle.whole.specs.Parts.{positive, negative}
 use Rattle.whole.proofs.Sizes.{sizes, fits, within, are-eq, back-is}
-use Rattle.rules.specs.Field.{elements}
-use Rattle.rules.proofs.GridLaws.{west-lt, south-lt}
+use Rattle.rules.specs.Field.{elements, faces}
 use Rattle.rules.proofs.ShapeLaws.{elements-le}
+use Rattle.step_grid.proofs.PlaceLaws.{FaceOwners, face-owners}
 use Rattle.step_correction.proofs.Laws.{added}
 use Rattle.step_correction.proofs.outflow.Statement.{statement}
 use Rattle.step_correction.proofs.outflow.Tie as tie
@@ -24,16 +26,9 @@ south-requires : tie.Need-south-requires
 south-requires c κs = c .before .before .pre .0
 
 -- the four faces are there
-inside : (c : tie.After-south) → (c .before .west .result < elements (c .before .before .before .args .shape)) × (c .south .result < elements (c .before .before .before .args .shape)) × (c .before .before .before .args .e < elements (c .before .before .before .args .shape)) × (elements (c .before .before .before .args .shape) ≤ 4096) × (length (c .before .before .before .args .fluxes .now) ≡ elements (c .before .before .before .args .shape) + elements (c .before .before .before .args .shape))
-inside c =
-    let b = c .before .before .before in
-    let f = b .pre .0 .admits in (
-      omega (arith, c .before .west .ensures, west-lt (b .args .shape) (f .nx-above) (f .ny-above) (b .args .e) (b .pre .0 .inside)),
-      omega (arith, c .south .ensures, south-lt (b .args .shape) (f .nx-above) (f .ny-above) (b .args .e) (b .pre .0 .inside)),
-      b .pre .0 .inside,
-      elements-le (b .args .shape) f,
-      b .pre .1 .0,
-    )
+inside : (c : tie.After-south) → let b = c .before .before .before in
+    FaceOwners (b .args .shape) (b .args .e) (c .before .west .result) (c .south .result) × (length (b .args .fluxes .now) ≡ faces (b .args .shape))
+inside c = let b = c .before .before .before in (face-owners (b .pre .0) (c .before .west .ensures) (c .south .ensures), b .pre .1 .0)
 
 add-south : tie.Need-add-south
 add-south c = record { fits = omega (arith, inside c) }

@@ -17,7 +17,7 @@ use Rattle.whole.proofs.Sizes.{sizes, exacts, fits, exact, are-eq}
 use Rattle.rules.specs.Field.{quadratic}
 use Rattle.rules.specs.Sizes.{stageSize, faceSumSize}
 use Rattle.step_layout.specs.Sections.{stageLength, stageStart, workUsed}
-use Rattle.step_layout.proofs.Laws.{places-le}
+use Rattle.step_layout.proofs.Laws.{places-le, mostUsed}
 use Rattle.step_fluxes.proofs.Laws.{line-room, read-small, term, stagesTerm, same-terms, terms-are, terms-within}
 use Rattle.step_fluxes.proofs.face_sum.Statement.{statement}
 use Rattle.step_fluxes.proofs.face_sum.Tie as tie
@@ -49,7 +49,7 @@ terms c = let a = c .before .before .before .args in same-terms (a .shape) (a .w
 -- what a turn reads is there
 inside : (c : tie.In-loop Inv-loop μ-loop) → let s = c .before .before in
     let a = s .before .before .before .args in
-    (s .before .before .stage-start .result ≡ stageStart (a .shape) 0) × (s .before .stage-start2 .result ≡ stageStart (a .shape) 1) × (s .stage-start3 .result ≡ stageStart (a .shape) 2) × (c .before .loop .at < stageLength (a .shape)) × (workUsed (a .shape) ≤ length (a .work .now)) × (workUsed (a .shape) ≤ 200704)
+    (s .before .before .stage-start .result ≡ stageStart (a .shape) 0) × (s .before .stage-start2 .result ≡ stageStart (a .shape) 1) × (s .stage-start3 .result ≡ stageStart (a .shape) 2) × (c .before .loop .at < stageLength (a .shape)) × (workUsed (a .shape) ≤ length (a .work .now)) × (workUsed (a .shape) ≤ mostUsed)
 inside c =
     let s = c .before .before in
     let b = s .before .before .before in

@@ -18,7 +18,7 @@ use Rattle.rules.specs.Calls.{windAt}
 use Rattle.rules.proofs.ShapeLaws.{elements-le}
 use Rattle.rules.specs.Sizes.{stageSize}
 use Rattle.step_layout.specs.Sections.{stageLength, stageStart, fluxesStart, northFluxesStart, workUsed}
-use Rattle.step_layout.proofs.Laws.{places-le, stage-ends}
+use Rattle.step_layout.proofs.Laws.{places-le, stage-ends, mostUsed}
 use Rattle.step_grid.specs.Place.{Placed}
 use Rattle.step_grid.proofs.PlaceLaws.{east-in, north-in}
 use Rattle.step_fluxes.specs.Face.{Staged, faceFlux, eastFlux, northFlux}
@@ -50,7 +50,7 @@ placed c = record { admits = c .before .before .before .before .before .pre .1 .
 
 sizes : (c : tie.In-loop Inv-loop μ-loop) → let s = c .before .before in
     let a = s .before .before .before .args in
-    (s .before .fluxes-start .result ≡ fluxesStart (a .shape)) × (s .north-fluxes-start .result ≡ northFluxesStart (a .shape)) × (c .before .loop .e < elements (a .shape)) × (workUsed (a .shape) ≤ length (a .work .now)) × (workUsed (a .shape) ≤ 200704)
+    (s .before .fluxes-start .result ≡ fluxesStart (a .shape)) × (s .north-fluxes-start .result ≡ northFluxesStart (a .shape)) × (c .before .loop .e < elements (a .shape)) × (workUsed (a .shape) ≤ length (a .work .now)) × (workUsed (a .shape) ≤ mostUsed)
 sizes c =
     let s = c .before .before in
     let b = s .before .before .before in
