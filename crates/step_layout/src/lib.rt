@@ -6,8 +6,10 @@ ghost use Rattle.step_layout.specs.Sections.{stageLength, stageStart, su
 use rules::Shape;
 use rules::element::NODES;
 
-// Stages 0, 1 and 2, and the tentative values as stage 3.
-const STAGES: usize = 4;
+// The tentative values, document 01's ψ, as a stage.
+pub const TENTATIVE: usize = 3;
+
+const STAGES: usize = TENTATIVE + 1;
 
 // The numbers of a stage.
 pub fn stage_length(shape: Shape) -> usize

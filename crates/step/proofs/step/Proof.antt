@@ -11,12 +11,12 @@ use Rattle.rules.specs.Field.{quadratic, part, total}
 use Rattle.rules.specs.Step.{tracerStep}
 use Rattle.rules.specs.Calls.{step, lent, windAt, done, call}
 use Rattle.whole.specs.Table.{overwrite}
-use Rattle.rules.proofs.PartLaws.{part-length}
+use Rattle.rules.proofs.PartLaws.{part-length, part-is-elements}
 use Rattle.rules.proofs.StepLaws.{length-after}
 use Rattle.rules.specs.Stages.{stages}
 use Rattle.rules.proofs.ShapeLaws.{elements-le}
 use Rattle.field.proofs.CheckLaws.{call-refused, call-accepted}
-use Rattle.field_layout.proofs.PlaceLaws.{part-is, field-is, field-le, tracer-room}
+use Rattle.field_layout.proofs.PlaceLaws.{field-is, field-le, tracer-room}
 use Rattle.step.proofs.CheckLaws.{Stepping, stepping, plain-refused, report-refused, report-accepted, work-refused, work-accepted, part-back}
 use Rattle.step.proofs.step.Statement.{statement}
 use Rattle.step.proofs.step.Tie as tie
@@ -91,7 +91,7 @@ step-requires c κs =
     let t = c .before .before .before .before in
     let a = c .before .before .before .before .before .before .before .before .before .before .before .args in
     let h = facts (c .before .before .before .before .before .before) in
-    (h .shape, (ap length (lent-is t) ∙ part-length quadratic (a .shape) (a .tracer) (a .field .now) (h .tracer) (h .room) ∙ part-is (a .shape), (omega (arith, ap (total quadratic (a .shape)) (lent-is t), h .within-limit), (h .wind-range, (h .reports, omega (arith, lent-long (c .before .before .before), c .before .before .before .elements .ensures))))))
+    (h .shape, (ap length (lent-is t) ∙ part-length quadratic (a .shape) (a .tracer) (a .field .now) (h .tracer) (h .room) ∙ part-is-elements quadratic (a .shape), (omega (arith, ap (total quadratic (a .shape)) (lent-is t), h .within-limit), (h .wind-range, (h .reports, omega (arith, lent-long (c .before .before .before), c .before .before .before .elements .ensures))))))
 
 same-length : tie.Need-same-length
 same-length c = search needs
