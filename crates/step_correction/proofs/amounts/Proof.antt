@@ -64,29 +64,11 @@ sizes c =
     let few = places-le g (h .admits) in
     (s .before .before .fluxes-start .ensures, s .before .masses-start .ensures, s .outflows-start .ensures, p, omega (arith, p, l .inv .1, h .numbers, elements-are g), omega (arith, p, l .inv .1, few), h .long, few)
 
-add-end : tie.Need-add-end Inv-loop μ-loop
-add-end c = record { fits = omega (arith, sizes c) }
-
-mul-mass : tie.Need-mul-mass Inv-loop μ-loop
-mul-mass c = record { fits = omega (arith, sizes c) }
-
-part-mass-end : tie.Need-part-mass-end Inv-loop μ-loop
-part-mass-end c = omega (arith, sizes c)
-
 mass-requires : tie.Need-mass-requires Inv-loop μ-loop
 mass-requires c κs =
     let i = c .before in
     let s = i .before .loop .start in
     part-size 10 s (s + 10 - s) (i .before .before .before .before .before .before .before .args .part .now) (add-sub-cancel-left s 10) (omega (arith, sizes i))
-
-mul-outflow : tie.Need-mul-outflow Inv-loop μ-loop
-mul-outflow c = record { fits = omega (arith, sizes (c .before .before)) }
-
-sub-outflow : tie.Need-sub-outflow Inv-loop μ-loop
-sub-outflow c = omega (arith, sizes (c .before .before))
-
-part-outflow-start : tie.Need-part-outflow-start Inv-loop μ-loop
-part-outflow-start c = omega (arith, sizes (c .before .before .before))
 
 part-outflow-end : tie.Need-part-outflow-end Inv-loop μ-loop
 part-outflow-end c = let i = c .before .before .before in omega (arith, sizes i, i .before .loop .inv .2 .long)
@@ -127,23 +109,11 @@ mass-small c =
     let i = c .before .before in
     omega (arith, mass-made c, i .before .before .before .before .before .before .before .pre .within-limit (i .before .loop .e) (placed i .inside))
 
-add-out : tie.Need-add-out Inv-loop μ-loop
-add-out c = record { fits = omega (arith, sizes (c .before .before .before .before .before)) }
-
-mul-out : tie.Need-mul-out Inv-loop μ-loop
-mul-out c = record { fits = omega (arith, sizes (c .before .before .before .before .before)) }
-
 slice-set-from-out : tie.Need-slice-set-from-out Inv-loop μ-loop
 slice-set-from-out c = let i = c .before .before .before .before .before in omega (arith, sizes i, i .before .loop .inv .2 .long)
 
 cast-work : tie.Need-cast-work Inv-loop μ-loop
 cast-work c = record { sfits = omega (arith, mass-small (c .before .before .before)) }
-
-add-t14 : tie.Need-add-t14 Inv-loop μ-loop
-add-t14 c = record { fits = omega (arith, sizes (c .before .before .before .before .before)) }
-
-mul-t16 : tie.Need-mul-t16 Inv-loop μ-loop
-mul-t16 c = record { fits = omega (arith, sizes (c .before .before .before .before .before)) }
 
 slice-set-from-work : tie.Need-slice-set-from-work Inv-loop μ-loop
 slice-set-from-work c = let i = c .before .before .before .before .before in rw length-set (omega (arith, sizes i, i .before .loop .inv .2 .long))
@@ -169,4 +139,13 @@ returns : tie.Need-returns Inv-loop μ-loop
 returns c = written-moved _ _ _ (c .before .before .before .masses-start .ensures) (c .before .before .outflows-start .ensures) (omega arith) (c .before .loop .inv .2)
 
 pub amounts-spec : {M : Type 1} → statement M
-amounts-spec = tie.close (tie.spec Inv-loop μ-loop mul-n fluxes-start-requires masses-start-requires outflows-start-requires loop-holds add-end mul-mass (λ c. search needs) (λ c. search needs) part-mass-end mass-requires mul-outflow sub-outflow part-outflow-start part-outflow-end outflow-requires add-out mul-out slice-set-from-out cast-work add-t14 mul-t16 slice-set-from-work (λ c. search needs) (λ c. search needs) loop-again same-length returns)
+amounts-spec = tie.close (tie.spec
+    Inv-loop μ-loop mul-n fluxes-start-requires masses-start-requires outflows-start-requires loop-holds
+    (λ c. let h = sizes c in search needs) (λ c. let h = sizes c in search needs) (λ c. search needs) (λ c. search needs)
+    (λ c. let h = sizes c in search needs) mass-requires (λ c. let h = sizes (c .before .before) in search needs)
+    (λ c. let h = sizes (c .before .before) in search needs) (λ c. let h = sizes (c .before .before .before) in search needs)
+    part-outflow-end outflow-requires (λ c. let h = sizes (c .before .before .before .before .before) in search needs)
+    (λ c. let h = sizes (c .before .before .before .before .before) in search needs) slice-set-from-out cast-work
+    (λ c. let h = sizes (c .before .before .before .before .before) in search needs)
+    (λ c. let h = sizes (c .before .before .before .before .before) in search needs) slice-set-from-work (λ c. search needs)
+    (λ c. search needs) loop-again same-length returns)

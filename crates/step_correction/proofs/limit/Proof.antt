@@ -73,9 +73,6 @@ north-made c =
     let e = i .before .loop .e in
     record { same = c .limited-face2 .ensures .same ∙ ap (limitedFace (b .args .shape) (b .args .work .now) (northFace (b .args .shape) e) e) (c .before .north .ensures); bound = b .pre .0 .norths e (placed i .inside) }
 
-cast-report : tie.Need-cast-report Inv-loop μ-loop
-cast-report c = let h = north-made c in fits (search sizes depth 20) tt
-
 add-report : tie.Need-add-report Inv-loop μ-loop
 add-report c = let i = c .before .before .before .before in record { fits = omega (arith, placed i .inside, small i) }
 
@@ -84,9 +81,6 @@ mul-report c = let i = c .before .before .before .before in record { fits = omeg
 
 slice-set-from-report : tie.Need-slice-set-from-report Inv-loop μ-loop
 slice-set-from-report c = let i = c .before .before .before .before in omega (arith, placed i .inside, i .before .loop .inv .1 .long, i .before .before .before .pre .1)
-
-cast-report-2 : tie.Need-cast-report-2 Inv-loop μ-loop
-cast-report-2 c = let h = east-made (c .before .before) in fits (search sizes depth 20) tt
 
 mul-t10 : tie.Need-mul-t10 Inv-loop μ-loop
 mul-t10 c = let i = c .before .before .before .before in record { fits = omega (arith, placed i .inside, small i) }
@@ -111,4 +105,8 @@ returns : tie.Need-returns Inv-loop μ-loop
 returns c = written-moved _ _ _ refl refl (omega arith) (c .before .loop .inv .1)
 
 pub limit-spec : {M : Type 1} → statement M
-limit-spec = tie.close (tie.spec Inv-loop μ-loop mul-n loop-holds east-requires limited-face-requires add-limited-face north-requires limited-face-requires-2 cast-report add-report mul-report slice-set-from-report cast-report-2 mul-t10 slice-set-from-report-2 (λ c. search needs) (λ c. search needs) loop-again same-length returns)
+limit-spec = tie.close (tie.spec
+    Inv-loop μ-loop mul-n loop-holds east-requires limited-face-requires add-limited-face north-requires limited-face-requires-2
+    (λ c. let h = north-made c in fits (search sizes depth 20) tt) add-report mul-report slice-set-from-report
+    (λ c. let h = east-made (c .before .before) in fits (search sizes depth 20) tt) mul-t10 slice-set-from-report-2 (λ c. search needs)
+    (λ c. search needs) loop-again same-length returns)

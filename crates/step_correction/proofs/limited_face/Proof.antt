@@ -3,7 +3,6 @@ use mathlib.Core.Path.{_≡_, sym, ap, subst, _∙_}
 use mathlib.Core.Bool.{cond}
 use Prim.Native.Nat.{ℕ, _≤_, _<_, _+_}
 use borrow.Author.Needs.{needs}
-use native.Mathlib.Omega.{arith}
 use lib.ListN.{length}
 use lib.Signed.{nonNeg}
 use mir.Syntax.{w64}
@@ -29,15 +28,6 @@ fluxes-start-requires c κs = c .pre .0 .admits
 flux-there : (c : tie.After-fluxes-start) → let b = c .before in
     (c .fluxes-start .result ≡ fluxesStart (b .args .shape)) × (b .args .f < faces (b .args .shape)) × (workUsed (b .args .shape) ≤ length (b .args .work .now)) × (workUsed (b .args .shape) ≤ mostUsed)
 flux-there c = let b = c .before in (c .fluxes-start .ensures, b .pre .1 .0, b .pre .0 .long, places-le (b .args .shape) (b .pre .0 .admits))
-
-add-flux : tie.Need-add-flux
-add-flux c = record { fits = omega (arith, flux-there c) }
-
-mul-flux : tie.Need-mul-flux
-mul-flux c = record { fits = omega (arith, flux-there c) }
-
-shared-slice-copy-out-flux : tie.Need-shared-slice-copy-out-flux
-shared-slice-copy-out-flux c = omega (arith, flux-there c)
 
 -- the flux, and its donor
 flux-is : (c : tie.After-flux) → let a = c .before .before .args in
@@ -70,24 +60,6 @@ amounts-there c =
     let d = c .before .before in
     let b = d .before .before .before in
     (c .before .outflows-start .ensures, c .masses-start .ensures, donor-inside d, b .pre .0 .long, places-le (b .args .shape) (b .pre .0 .admits))
-
-add-cut : tie.Need-add-cut
-add-cut c = record { fits = omega (arith, amounts-there c) }
-
-mul-cut : tie.Need-mul-cut
-mul-cut c = record { fits = omega (arith, amounts-there c) }
-
-shared-slice-copy-out-cut : tie.Need-shared-slice-copy-out-cut
-shared-slice-copy-out-cut c = omega (arith, amounts-there c)
-
-add-cut-2 : tie.Need-add-cut-2
-add-cut-2 c = record { fits = omega (arith, amounts-there (c .before)) }
-
-mul-cut-2 : tie.Need-mul-cut-2
-mul-cut-2 c = record { fits = omega (arith, amounts-there (c .before)) }
-
-shared-slice-copy-out-cut-2 : tie.Need-shared-slice-copy-out-cut-2
-shared-slice-copy-out-cut-2 c = omega (arith, amounts-there (c .before))
 
 -- as they are read
 out-is : (c : tie.After-masses-start) → let d = c .before .before in
@@ -131,4 +103,9 @@ returns c =
     are-eq (record { same = read-back w64 (c .cut .ensures) tt; bound = c .cut .ensures .bound }) e
 
 pub limited-face-spec : {M : Type 1} → statement M
-limited-face-spec = tie.close (tie.spec fluxes-start-requires add-flux mul-flux shared-slice-copy-out-flux (λ c κs. search needs) outflows-start-requires masses-start-requires add-cut mul-cut shared-slice-copy-out-cut add-cut-2 mul-cut-2 shared-slice-copy-out-cut-2 cut-requires returns)
+limited-face-spec = tie.close (tie.spec
+    fluxes-start-requires (λ c. let h = flux-there c in search needs) (λ c. let h = flux-there c in search needs)
+    (λ c. let h = flux-there c in search needs) (λ c κs. search needs) outflows-start-requires masses-start-requires
+    (λ c. let h = amounts-there c in search needs) (λ c. let h = amounts-there c in search needs)
+    (λ c. let h = amounts-there c in search needs) (λ c. let h = amounts-there (c .before) in search needs)
+    (λ c. let h = amounts-there (c .before) in search needs) (λ c. let h = amounts-there (c .before) in search needs) cut-requires returns)

@@ -67,42 +67,6 @@ small c =
     let i = inside c in
     (read-small 0 _ _ h (i .0) (omega arith) (i .3), read-small 1 _ _ h (i .1) (omega arith) (i .3), read-small 2 _ _ h (i .2) (omega arith) (i .3))
 
-add-p0 : tie.Need-add-p0 Inv-loop μ-loop
-add-p0 c = record { fits = omega (arith, inside c) }
-
-mul-p0 : tie.Need-mul-p0 Inv-loop μ-loop
-mul-p0 c = record { fits = omega (arith, inside c) }
-
-shared-slice-copy-out-p0 : tie.Need-shared-slice-copy-out-p0 Inv-loop μ-loop
-shared-slice-copy-out-p0 c = omega (arith, inside c)
-
-add-p1 : tie.Need-add-p1 Inv-loop μ-loop
-add-p1 c = record { fits = omega (arith, inside (c .before)) }
-
-mul-p1 : tie.Need-mul-p1 Inv-loop μ-loop
-mul-p1 c = record { fits = omega (arith, inside (c .before)) }
-
-shared-slice-copy-out-p1 : tie.Need-shared-slice-copy-out-p1 Inv-loop μ-loop
-shared-slice-copy-out-p1 c = omega (arith, inside (c .before))
-
-add-p2 : tie.Need-add-p2 Inv-loop μ-loop
-add-p2 c = record { fits = omega (arith, inside (c .before .before)) }
-
-mul-p2 : tie.Need-mul-p2 Inv-loop μ-loop
-mul-p2 c = record { fits = omega (arith, inside (c .before .before)) }
-
-shared-slice-copy-out-p2 : tie.Need-shared-slice-copy-out-p2 Inv-loop μ-loop
-shared-slice-copy-out-p2 c = omega (arith, inside (c .before .before))
-
-mul-sum : tie.Need-mul-sum Inv-loop μ-loop
-mul-sum c = let h = small (c .before .before .before .before) in fits (search sizes depth 20) tt
-
-add-sum : tie.Need-add-sum Inv-loop μ-loop
-add-sum c = let h = small (c .before .before .before .before) in fits (search sizes depth 20) tt
-
-add-sum-2 : tie.Need-add-sum-2 Inv-loop μ-loop
-add-sum-2 c = let h = small (c .before .before .before .before) in fits (search sizes depth 20) tt
-
 mul-sum-2 : tie.Need-mul-sum-2 Inv-loop μ-loop
 mul-sum-2 c = let h = small (c .before .before .before .before) in let ω = c .line-weight .ensures in fits (search sizes depth 20) tt
 
@@ -143,4 +107,13 @@ returns c =
     are-eq (rw e at (c .before .loop .inv .2)) (ap (sumℤ 3) (terms s) ∙ terms-are (a .shape) (a .work .now) (a .start) (a .stride))
 
 pub face-sum-spec : {M : Type 1} → statement M
-face-sum-spec = tie.close (tie.spec Inv-loop μ-loop stage-start-requires stage-start-requires-2 stage-start-requires-3 loop-holds add-p0 mul-p0 shared-slice-copy-out-p0 add-p1 mul-p1 shared-slice-copy-out-p1 add-p2 mul-p2 shared-slice-copy-out-p2 (λ c κs. search needs) mul-sum add-sum add-sum-2 mul-sum-2 add-sum-3 add-at (λ c. search needs) (λ c. search needs) loop-again returns)
+face-sum-spec = tie.close (tie.spec
+    Inv-loop μ-loop stage-start-requires stage-start-requires-2 stage-start-requires-3 loop-holds (λ c. let h = inside c in search needs)
+    (λ c. let h = inside c in search needs) (λ c. let h = inside c in search needs) (λ c. let h = inside (c .before) in search needs)
+    (λ c. let h = inside (c .before) in search needs) (λ c. let h = inside (c .before) in search needs)
+    (λ c. let h = inside (c .before .before) in search needs) (λ c. let h = inside (c .before .before) in search needs)
+    (λ c. let h = inside (c .before .before) in search needs) (λ c κs. search needs)
+    (λ c. let h = small (c .before .before .before .before) in fits (search sizes depth 20) tt)
+    (λ c. let h = small (c .before .before .before .before) in fits (search sizes depth 20) tt)
+    (λ c. let h = small (c .before .before .before .before) in fits (search sizes depth 20) tt) mul-sum-2 add-sum-3 add-at
+    (λ c. search needs) (λ c. search needs) loop-again returns)

@@ -85,12 +85,6 @@ face-flux-requires c κs =
     let p = placed i in
     (staged i, (subst (Within 1024) (sym (widened _ (c .before .face-flux-arg2 .given))) (b .pre .0 .small (i .before .loop .e) (omega (arith, p .inside))), (p .inside, (omega (arith, c .east .ensures, east-in p), omega arith))))
 
-add-face-flux : tie.Need-add-face-flux Inv-loop μ-loop
-add-face-flux c = record { fits = omega (arith, sizes (c .before .before .before .before .before)) }
-
-mul-face-flux-2 : tie.Need-mul-face-flux-2 Inv-loop μ-loop
-mul-face-flux-2 c = record { fits = omega (arith, sizes (c .before .before .before .before .before)) }
-
 shared-slice-copy-out-face-flux-2 : tie.Need-shared-slice-copy-out-face-flux-2 Inv-loop μ-loop
 shared-slice-copy-out-face-flux-2 c = let i = c .before .before .before .before .before in omega (arith, placed i .inside, i .before .before .before .before .before .pre .0 .long)
 
@@ -107,20 +101,8 @@ face-flux-requires-2 c κs =
     let p = placed i in
     (staged i, (subst (Within 1024) (sym (widened _ (c .before .face-flux-arg4 .given))) (b .pre .0 .small (northFace (b .args .shape) (i .before .loop .e)) (omega (arith, p .inside))), (p .inside, (omega (arith, c .north .ensures, north-in p), omega arith))))
 
-add-north : tie.Need-add-north Inv-loop μ-loop
-add-north c = record { fits = omega (arith, sizes (c .before .before .before .before .before .before .before .before)) }
-
-mul-north : tie.Need-mul-north Inv-loop μ-loop
-mul-north c = record { fits = omega (arith, sizes (c .before .before .before .before .before .before .before .before)) }
-
 slice-set-from-north : tie.Need-slice-set-from-north Inv-loop μ-loop
 slice-set-from-north c = let i = c .before .before .before .before .before .before .before .before in omega (arith, sizes i, i .before .loop .inv .1 .long)
-
-add-east : tie.Need-add-east Inv-loop μ-loop
-add-east c = record { fits = omega (arith, sizes (c .before .before .before .before .before .before .before .before)) }
-
-mul-east : tie.Need-mul-east Inv-loop μ-loop
-mul-east c = record { fits = omega (arith, sizes (c .before .before .before .before .before .before .before .before)) }
 
 slice-set-from-east : tie.Need-slice-set-from-east Inv-loop μ-loop
 slice-set-from-east c = let i = c .before .before .before .before .before .before .before .before in rw length-set (omega (arith, sizes i, i .before .loop .inv .1 .long))
@@ -170,4 +152,13 @@ returns : tie.Need-returns Inv-loop μ-loop
 returns c = written-moved _ _ _ (c .before .before .before .fluxes-start .ensures) (c .before .before .north-fluxes-start .ensures) (omega arith) (c .before .loop .inv .1)
 
 pub fluxes-spec : {M : Type 1} → statement M
-fluxes-spec = tie.close (tie.spec Inv-loop μ-loop mul-n fluxes-start-requires north-fluxes-start-requires loop-holds (λ c. search needs) shared-slice-copy-out-face-flux cast-face-flux east-requires face-flux-requires add-face-flux mul-face-flux-2 shared-slice-copy-out-face-flux-2 cast-face-flux-2 north-requires face-flux-requires-2 add-north mul-north slice-set-from-north add-east mul-east slice-set-from-east (λ c. search needs) (λ c. search needs) loop-again same-length returns)
+fluxes-spec = tie.close (tie.spec
+    Inv-loop μ-loop mul-n fluxes-start-requires north-fluxes-start-requires loop-holds (λ c. search needs) shared-slice-copy-out-face-flux
+    cast-face-flux east-requires face-flux-requires (λ c. let h = sizes (c .before .before .before .before .before) in search needs)
+    (λ c. let h = sizes (c .before .before .before .before .before) in search needs) shared-slice-copy-out-face-flux-2 cast-face-flux-2
+    north-requires face-flux-requires-2
+    (λ c. let h = sizes (c .before .before .before .before .before .before .before .before) in search needs)
+    (λ c. let h = sizes (c .before .before .before .before .before .before .before .before) in search needs) slice-set-from-north
+    (λ c. let h = sizes (c .before .before .before .before .before .before .before .before) in search needs)
+    (λ c. let h = sizes (c .before .before .before .before .before .before .before .before) in search needs) slice-set-from-east
+    (λ c. search needs) (λ c. search needs) loop-again same-length returns)

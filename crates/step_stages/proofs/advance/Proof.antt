@@ -65,15 +65,6 @@ sizes c =
     let h = b .pre in
     (c .before .before .before .before .stage-start .ensures, c .before .before .before .stage-start2 .ensures ∙ next-stage g (b .args .stage), c .before .before .stage-start3 .ensures, c .before .sums-start .ensures, stage-ends g (h .1 .1 .0), elements-le g (h .0), h .1 .1 .1 .long)
 
-mul-tendencies : tie.Need-mul-tendencies Inv-loop μ-loop
-mul-tendencies c = record { fits = omega (arith, sizes (c .before .before)) }
-
-sub-tendencies : tie.Need-sub-tendencies Inv-loop μ-loop
-sub-tendencies c = omega (arith, sizes (c .before .before))
-
-part-tendencies-start : tie.Need-part-tendencies-start Inv-loop μ-loop
-part-tendencies-start c = omega (arith, sizes (c .before .before .before))
-
 part-tendencies-end : tie.Need-part-tendencies-end Inv-loop μ-loop
 part-tendencies-end c = omega (arith, sizes (c .before .before .before), c .before .before .loop .inv .4 .long)
 
@@ -192,4 +183,9 @@ returns : tie.Need-returns Inv-loop μ-loop
 returns c = let t = c .before .before in written-moved _ _ _ (t .before .before .before .stage-start2 .ensures) (t .before .sums-start .ensures) (omega arith) (c .before .loop .inv .4)
 
 pub advance-spec : {M : Type 1} → statement M
-advance-spec = tie.close (tie.spec Inv-loop μ-loop mul-n stage-start-requires add-stage-start stage-start-requires-2 stage-start-requires-3 sums-start-requires (λ c. search needs) (λ c. search needs) loop-holds mul-tendencies sub-tendencies part-tendencies-start part-tendencies-end tendencies-requires advance-element-requires add-from add-to add-sums (λ c. search needs) (λ c. search needs) loop-again same-length returns)
+advance-spec = tie.close (tie.spec
+    Inv-loop μ-loop mul-n stage-start-requires add-stage-start stage-start-requires-2 stage-start-requires-3 sums-start-requires
+    (λ c. search needs) (λ c. search needs) loop-holds (λ c. let h = sizes (c .before .before) in search needs)
+    (λ c. let h = sizes (c .before .before) in search needs) (λ c. let h = sizes (c .before .before .before) in search needs)
+    part-tendencies-end tendencies-requires advance-element-requires add-from add-to add-sums (λ c. search needs) (λ c. search needs)
+    loop-again same-length returns)

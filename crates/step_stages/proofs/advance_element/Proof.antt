@@ -45,24 +45,6 @@ sum-small c = subst (λ (z : ℤ). Within earlierSumSize z) (sym (sum-is c)) (c 
 room : (c : tie.In-loop Inv-loop μ-loop) → (c .before .before .args .sums + 9 ≤ length (c .before .loop .work)) × (c .before .before .args .to + 9 ≤ c .before .before .args .sums) × (c .before .before .args .from + 9 ≤ c .before .before .args .to)
 room c = let h = c .before .before .pre .0 in (omega (arith, h .room, c .before .loop .inv .1 .long), h .between, h .before)
 
-add-value : tie.Need-add-value Inv-loop μ-loop
-add-value c = record { fits = omega (arith, room c) }
-
-mul-value : tie.Need-mul-value Inv-loop μ-loop
-mul-value c = record { fits = omega (arith, room c) }
-
-slice-copy-out-value : tie.Need-slice-copy-out-value Inv-loop μ-loop
-slice-copy-out-value c = omega (arith, room c)
-
-add-sum : tie.Need-add-sum Inv-loop μ-loop
-add-sum c = record { fits = omega (arith, room (c .before)) }
-
-mul-sum : tie.Need-mul-sum Inv-loop μ-loop
-mul-sum c = record { fits = omega (arith, room (c .before)) }
-
-slice-copy-out-sum : tie.Need-slice-copy-out-sum Inv-loop μ-loop
-slice-copy-out-sum c = omega (arith, room (c .before))
-
 -- the factor is at most 4
 times-small : (c : tie.In-loop Inv-loop μ-loop) → Within 6 (c .before .before .args .times)
 times-small c = let b = c .before .before in subst (λ (z : ℤ). Within 6 z) (factor-is (b .args .stage) ∙ sym (b .pre .1 .0)) (record { within = peak-at factors (b .args .stage) })
@@ -87,12 +69,6 @@ add-work c =
     let v = value-small b in
     let d = c .divided .ensures in
     fits (search sizes depth 20) tt
-
-add-t13 : tie.Need-add-t13 Inv-loop μ-loop
-add-t13 c = record { fits = omega (arith, room (c .before .before .before .before)) }
-
-mul-t17 : tie.Need-mul-t17 Inv-loop μ-loop
-mul-t17 c = record { fits = omega (arith, room (c .before .before .before .before)) }
 
 slice-set-from-work : tie.Need-slice-set-from-work Inv-loop μ-loop
 slice-set-from-work c = rw length-set (omega (arith, room (c .before .before .before .before)))
@@ -126,4 +102,11 @@ returns : tie.Need-returns Inv-loop μ-loop
 returns c = let e : c .before .loop .k ≡ 9 = omega arith in rw e at (c .before .loop .inv .1)
 
 pub advance-element-spec : {M : Type 1} → statement M
-advance-element-spec = tie.close (tie.spec Inv-loop μ-loop loop-holds add-value mul-value slice-copy-out-value add-sum mul-sum slice-copy-out-sum (λ c. search needs) (λ c. search needs) mul-sum-3 add-sum-2 (λ c. search needs) (λ c. search needs) (λ c. search needs) divided-requires add-work add-t13 mul-t17 slice-set-from-work (λ c. search needs) (λ c. search needs) loop-again same-length returns)
+advance-element-spec = tie.close (tie.spec
+    Inv-loop μ-loop loop-holds (λ c. let h = room c in search needs) (λ c. let h = room c in search needs)
+    (λ c. let h = room c in search needs) (λ c. let h = room (c .before) in search needs) (λ c. let h = room (c .before) in search needs)
+    (λ c. let h = room (c .before) in search needs) (λ c. search needs) (λ c. search needs) mul-sum-3 add-sum-2 (λ c. search needs)
+    (λ c. search needs) (λ c. search needs) divided-requires add-work
+    (λ c. let h = room (c .before .before .before .before) in search needs)
+    (λ c. let h = room (c .before .before .before .before) in search needs) slice-set-from-work (λ c. search needs) (λ c. search needs)
+    loop-again same-length returns)

@@ -90,4 +90,7 @@ returns : tie.Need-returns Inv-loop μ-loop
 returns c = let s = sizes (c .before .before) in written-moved _ _ _ (s .0) (s .1) (omega arith) (c .before .loop .inv .4)
 
 pub start-spec : {M : Type 1} → statement M
-start-spec = tie.close (tie.spec Inv-loop μ-loop mul-n stage-start-requires sums-start-requires loop-holds add-end mul-start-element (λ c. search needs) (λ c. search needs) part-start-element-end start-element-requires add-to add-sums (λ c. search needs) (λ c. search needs) loop-again same-length returns)
+start-spec = tie.close (tie.spec
+    Inv-loop μ-loop mul-n stage-start-requires sums-start-requires loop-holds add-end mul-start-element (λ c. search needs)
+    (λ c. search needs) part-start-element-end start-element-requires add-to add-sums (λ c. search needs) (λ c. search needs) loop-again
+    same-length returns)

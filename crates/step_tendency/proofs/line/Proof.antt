@@ -60,4 +60,6 @@ returns c =
     ∙ ap₂ (λ x y. table 3 (lineAt (a .c .now) (a .v .now) (a .start) (a .stride) x y)) (toZ-ofZ (b .fits .first)) (toZ-ofZ (b .fits .last))
 
 pub line-spec : {M : Type 1} → statement M
-line-spec = tie.close (tie.spec Inv-loop μ-loop loop-holds along-requires with-ends-requires (λ c. search needs) slice-set-from-out (λ c. search needs) (λ c. search needs) loop-again same-length returns)
+line-spec = tie.close (tie.spec
+    Inv-loop μ-loop loop-holds along-requires with-ends-requires (λ c. search needs) slice-set-from-out (λ c. search needs)
+    (λ c. search needs) loop-again same-length returns)

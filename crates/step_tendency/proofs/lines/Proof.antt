@@ -66,9 +66,6 @@ winds c =
     let h = b .pre in
     subst (λ l. AllWithin placeWindSize l) (sym (c .before .before .before .before .before .place-winds .ensures)) (weighedWind-within _ _ (within (search sizes depth 20) tt) (within (search sizes depth 20) tt))
 
-mul-line : tie.Need-mul-line Inv-loop μ-loop
-mul-line c = record { fits = omega (arith, reach (c .before)) }
-
 line-requires : tie.Need-line-requires Inv-loop μ-loop
 line-requires c κs =
     let d = c .before in
@@ -105,4 +102,8 @@ returns c =
     ∙ ap₂ (λ x y. table 9 (lineNodes (a .v .now) x y (a .u .now) (a .side) (a .step) (a .stride))) (toZ-ofZ (b .fits .cw)) (toZ-ofZ (b .fits .ce))
 
 pub lines-spec : {M : Type 1} → statement M
-lines-spec = tie.close (tie.spec Inv-loop μ-loop place-winds-requires loop-holds (λ c. search needs) mul-first (λ c. search needs) (λ c. search needs) (λ c. search needs) mul-first-3 mul-last (λ c. search needs) (λ c. search needs) (λ c. search needs) (λ c. search needs) mul-last-3 (λ c. search needs) (λ c. search needs) (λ c. search needs) part-x-end mul-line line-requires (λ c. search needs) (λ c. search needs) loop-again returns)
+lines-spec = tie.close (tie.spec
+    Inv-loop μ-loop place-winds-requires loop-holds (λ c. search needs) mul-first (λ c. search needs) (λ c. search needs)
+    (λ c. search needs) mul-first-3 mul-last (λ c. search needs) (λ c. search needs) (λ c. search needs) (λ c. search needs) mul-last-3
+    (λ c. search needs) (λ c. search needs) (λ c. search needs) part-x-end (λ c. let h = reach (c .before) in search needs) line-requires
+    (λ c. search needs) (λ c. search needs) loop-again returns)

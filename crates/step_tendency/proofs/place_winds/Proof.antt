@@ -54,4 +54,7 @@ returns c =
     (rw e at (c .before .loop .inv .2)) ∙ append-nil _ ∙ ap₂ (λ x y. table 3 (weighedWind x y)) (toZ-ofZ (b .fits .cw)) (toZ-ofZ (b .fits .ce))
 
 pub place-winds-spec : {M : Type 1} → statement M
-place-winds-spec = tie.close (tie.spec Inv-loop μ-loop loop-holds (λ c κs. search needs) (λ c. search needs) (λ c. search needs) mul-c-2 (λ c. search needs) (λ c. search needs) mul-c-4 add-c mul-c-5 (λ c. search needs) (λ c. search needs) (λ c. search needs) (λ c. search needs) loop-again returns)
+place-winds-spec = tie.close (tie.spec
+    Inv-loop μ-loop loop-holds (λ c κs. search needs) (λ c. search needs) (λ c. search needs) mul-c-2 (λ c. search needs)
+    (λ c. search needs) mul-c-4 add-c mul-c-5 (λ c. search needs) (λ c. search needs) (λ c. search needs) (λ c. search needs) loop-again
+    returns)

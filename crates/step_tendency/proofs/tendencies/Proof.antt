@@ -86,4 +86,8 @@ returns c =
     (rw e at (c .before .loop .inv .2)) ∙ append-nil _ ∙ ap₂ (λ x y. table 9 (combined x y)) (xs g) (ys g) ∙ all-combined (a .v .now) (a .c .now) (a .u .now)
 
 pub tendencies-spec : {M : Type 1} → statement M
-tendencies-spec = tie.close (tie.spec Inv-loop μ-loop (λ c. search needs) (λ c. search needs) lines-requires (λ c. search needs) (λ c. search needs) (λ c. search needs) lines-requires-2 loop-holds (λ c κs. search needs) (λ c. search needs) (λ c. search needs) mul-t-2 (λ c κs. search needs) (λ c. search needs) (λ c. search needs) (λ c. search needs) (λ c. search needs) mul-t-5 add-t-2 (λ c. search needs) (λ c. search needs) cast-t shr-t (λ c. search needs) (λ c. search needs) (λ c. search needs) (λ c. search needs) loop-again returns)
+tendencies-spec = tie.close (tie.spec
+    Inv-loop μ-loop (λ c. search needs) (λ c. search needs) lines-requires (λ c. search needs) (λ c. search needs) (λ c. search needs)
+    lines-requires-2 loop-holds (λ c κs. search needs) (λ c. search needs) (λ c. search needs) mul-t-2 (λ c κs. search needs)
+    (λ c. search needs) (λ c. search needs) (λ c. search needs) (λ c. search needs) mul-t-5 add-t-2 (λ c. search needs)
+    (λ c. search needs) cast-t shr-t (λ c. search needs) (λ c. search needs) (λ c. search needs) (λ c. search needs) loop-again returns)

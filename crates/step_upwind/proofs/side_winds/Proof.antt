@@ -24,15 +24,6 @@ south-requires c κs = c .before .before .pre .0
 inside : (c : tie.After-south) → FaceOwners (c .before .before .before .args .shape) (c .before .before .before .args .e) (c .before .west .result) (c .south .result)
 inside c = face-owners (c .before .before .before .pre .0) (c .before .west .ensures) (c .south .ensures)
 
-add-south : tie.Need-add-south
-add-south c = record { fits = omega (arith, inside c) }
-
-add-north : tie.Need-add-north
-add-north c = record { fits = omega (arith, inside c) }
-
-mul-t8 : tie.Need-mul-t8
-mul-t8 c = record { fits = omega (arith, inside c) }
-
 shared-slice-copy-out-t10 : tie.Need-shared-slice-copy-out-t10
 shared-slice-copy-out-t10 c = omega (arith, inside c, c .before .before .before .pre .1 .long)
 
@@ -44,9 +35,6 @@ shared-slice-copy-out-t14 c = let b = c .before .before .before .before in omega
 
 cast-t15 : tie.Need-cast-t15
 cast-t15 c = let h = c .t14 .given in fits (search sizes-wide depth 20) tt
-
-mul-t16 : tie.Need-mul-t16
-mul-t16 c = record { fits = omega (arith, inside (c .before .before)) }
 
 shared-slice-copy-out-t18 : tie.Need-shared-slice-copy-out-t18
 shared-slice-copy-out-t18 c = let b = c .before .before .before .before .before in omega (arith, inside (c .before .before), b .pre .1 .long)
@@ -69,4 +57,8 @@ returns c =
     λ i. (widened _ (c .before .before .before .t10 .given) ∙ ap w (s .before .west .ensures)) i ∷ widened (w (a .e)) (c .before .before .t14 .given) i ∷ (widened _ (c .before .t18 .given) ∙ ap (λ x. w (n + x)) (s .south .ensures)) i ∷ widened (w (n + a .e)) (c .t22 .given) i ∷ []
 
 pub side-winds-spec : {M : Type 1} → statement M
-side-winds-spec = tie.close (tie.spec mul-n west-requires south-requires add-south add-north mul-t8 shared-slice-copy-out-t10 cast-t11 (λ c. search needs) shared-slice-copy-out-t14 cast-t15 mul-t16 shared-slice-copy-out-t18 cast-t19 (λ c. search needs) shared-slice-copy-out-t22 cast-t23 returns)
+side-winds-spec = tie.close (tie.spec
+    mul-n west-requires south-requires (λ c. let h = inside c in search needs) (λ c. let h = inside c in search needs)
+    (λ c. let h = inside c in search needs) shared-slice-copy-out-t10 cast-t11 (λ c. search needs) shared-slice-copy-out-t14 cast-t15
+    (λ c. let h = inside (c .before .before) in search needs) shared-slice-copy-out-t18 cast-t19 (λ c. search needs)
+    shared-slice-copy-out-t22 cast-t23 returns)

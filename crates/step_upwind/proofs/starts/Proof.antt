@@ -76,4 +76,7 @@ returns c =
     (rw e at (c .before .loop .inv .2)) ∙ append-nil _ ∙ (λ i. table 4 (λ s. upwindStart (at (a .c .now) s) (getD (behind-is n i) s 0) (getD (ahead-is n i) s 0) (getD lasts s 0)))
 
 pub starts-spec : {M : Type 1} → statement M
-starts-spec = tie.close (tie.spec Inv-loop μ-loop west-requires east-requires south-requires north-requires loop-holds (λ c. search needs) (λ c. search needs) (λ c. search needs) (λ c. search needs) (λ c. search needs) (λ c. search needs) (λ c. search needs) (λ c. search needs) upwind-start-requires (λ c. search needs) (λ c. search needs) (λ c. search needs) (λ c. search needs) loop-again returns)
+starts-spec = tie.close (tie.spec
+    Inv-loop μ-loop west-requires east-requires south-requires north-requires loop-holds (λ c. search needs) (λ c. search needs)
+    (λ c. search needs) (λ c. search needs) (λ c. search needs) (λ c. search needs) (λ c. search needs) (λ c. search needs)
+    upwind-start-requires (λ c. search needs) (λ c. search needs) (λ c. search needs) (λ c. search needs) loop-again returns)

@@ -54,4 +54,5 @@ returns c =
     ∙ gathered (a .shape) (windAt (a .wind .now)) (a .phi .now) (a .e) (b .pre .0)
 
 pub tendencies-spec : {M : Type 1} → statement M
-tendencies-spec = tie.close (tie.spec side-winds-requires starts-requires upwind-values-requires (λ c. search needs) values-requires tendencies-requires returns)
+tendencies-spec = tie.close (tie.spec
+    side-winds-requires starts-requires upwind-values-requires (λ c. search needs) values-requires tendencies-requires returns)

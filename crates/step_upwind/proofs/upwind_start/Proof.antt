@@ -19,9 +19,6 @@ use Rattle.step_upwind.proofs.upwind_start.Tie as tie
 places-small : (c : tie.Start) → (Within 40960 (toZ w64 (c .args .behind * 9 + c .args .last))) × (Within 40960 (toZ w64 (c .args .ahead * 9)))
 places-small c = (place-small (c .args .behind * 9 + c .args .last) (omega arith), place-small (c .args .ahead * 9) (omega arith))
 
-sub-result : tie.Need-sub-result
-sub-result c = let h = places-small (c .before) in fits (search sizes depth 20) tt
-
 mul-result : tie.Need-mul-result
 mul-result c = let h = places-small (c .before) in let s = c .sign .ensures in fits (search sizes depth 20) tt
 
@@ -40,4 +37,6 @@ returns : tie.Need-returns
 returns c = let a = c .before .args in ap natAbs (made c) ∙ start-is (a .c) (a .behind) (a .ahead) (a .last)
 
 pub upwind-start-spec : {M : Type 1} → statement M
-upwind-start-spec = tie.close (tie.spec (λ c. search needs) (λ c. search needs) (λ c. search needs) (λ c. search needs) (λ c. search needs) (λ c κs. search needs) sub-result mul-result add-result cast-result returns)
+upwind-start-spec = tie.close (tie.spec
+    (λ c. search needs) (λ c. search needs) (λ c. search needs) (λ c. search needs) (λ c. search needs) (λ c κs. search needs)
+    (λ c. let h = places-small (c .before) in fits (search sizes depth 20) tt) mul-result add-result cast-result returns)

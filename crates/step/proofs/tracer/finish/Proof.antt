@@ -67,24 +67,6 @@ ends c =
 target-requires : tie.Need-target-requires Inv-loop μ-loop
 target-requires c κs = (c .before .before .before .before .before .pre .1 .1, placed c)
 
-add-end : tie.Need-add-end Inv-loop μ-loop
-add-end c = record { fits = omega (arith, ends (c .before)) }
-
-add-psi-end : tie.Need-add-psi-end Inv-loop μ-loop
-add-psi-end c = record { fits = omega (arith, ends (c .before)) }
-
-mul-close : tie.Need-mul-close Inv-loop μ-loop
-mul-close c = record { fits = omega (arith, ends (c .before)) }
-
-part-close-end : tie.Need-part-close-end Inv-loop μ-loop
-part-close-end c = omega (arith, ends (c .before))
-
-mul-close-2 : tie.Need-mul-close-2 Inv-loop μ-loop
-mul-close-2 c = record { fits = omega (arith, ends (c .before .before)) }
-
-part-close-end-2 : tie.Need-part-close-end-2 Inv-loop μ-loop
-part-close-end-2 c = omega (arith, ends (c .before .before))
-
 close-requires : tie.Need-close-requires Inv-loop μ-loop
 close-requires c κs =
     let i = c .before .before .before in
@@ -119,4 +101,9 @@ returns c =
     (rw e at (c .before .loop .inv .3)) ∙ ap (λ y. blocks n (newElement (a .shape) (a .work .now) (a .report .now)) ++ y) (drop-of-length-le (a .part .now) {i = n * 10} (omega (arith, ten b))) ∙ append-nil _
 
 pub finish-spec : {M : Type 1} → statement M
-finish-spec = tie.close (tie.spec Inv-loop μ-loop mul-n stage-start-requires loop-holds target-requires add-end add-psi-end mul-close (λ c. search needs) (λ c. search needs) part-close-end mul-close-2 (λ c. search needs) (λ c. search needs) part-close-end-2 close-requires (λ c. search needs) (λ c. search needs) loop-again same-length returns)
+finish-spec = tie.close (tie.spec
+    Inv-loop μ-loop mul-n stage-start-requires loop-holds target-requires (λ c. let h = ends (c .before) in search needs)
+    (λ c. let h = ends (c .before) in search needs) (λ c. let h = ends (c .before) in search needs) (λ c. search needs)
+    (λ c. search needs) (λ c. let h = ends (c .before) in search needs) (λ c. let h = ends (c .before .before) in search needs)
+    (λ c. search needs) (λ c. search needs) (λ c. let h = ends (c .before .before) in search needs) close-requires (λ c. search needs)
+    (λ c. search needs) loop-again same-length returns)

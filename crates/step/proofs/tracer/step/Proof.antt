@@ -105,4 +105,6 @@ returns c =
     (c .before .before .finish .ensures ∙ all-closed (given b) (after-amounts d) wide (r .limit .ensures), reported (given b) (after-amounts d) wide (r .limit .ensures))
 
 pub step-spec : {M : Type 1} → statement M
-step-spec = tie.close (tie.spec start-requires advance-requires advance-requires-2 advance-requires-3 fluxes-requires amounts-requires limit-requires finish-requires (λ c. search needs) same-length-2 same-length-3 returns)
+step-spec = tie.close (tie.spec
+    start-requires advance-requires advance-requires-2 advance-requires-3 fluxes-requires amounts-requires limit-requires finish-requires
+    (λ c. search needs) same-length-2 same-length-3 returns)

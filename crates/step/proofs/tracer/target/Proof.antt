@@ -2,6 +2,7 @@
 -- (`read-sum`), which is not below 0.
 use mathlib.Core.Path.{_≡_, sym, ap, subst, _∙_}
 use Prim.Native.Nat.{_≤_, _+_}
+use borrow.Author.Needs.{needs}
 use native.Mathlib.Omega.{arith}
 use lib.IntN.{ℤ, pos, natAbs, _+ℤ_, _-ℤ_}
 use lib.ListN.{length}
@@ -62,69 +63,6 @@ read c =
       south = f .fluxes _ (omega (arith, h));
     }
 
-add-south : tie.Need-add-south
-add-south c = record { fits = omega (arith, inside c) }
-
-add-north : tie.Need-add-north
-add-north c = record { fits = omega (arith, inside c) }
-
-add-left : tie.Need-add-left
-add-left c = record { fits = omega (arith, inside c) }
-
-mul-left : tie.Need-mul-left
-mul-left c = record { fits = omega (arith, inside c) }
-
-shared-slice-copy-out-left : tie.Need-shared-slice-copy-out-left
-shared-slice-copy-out-left c = omega (arith, inside c)
-
-mul-left-2 : tie.Need-mul-left-2
-mul-left-2 c = record { fits = omega (arith, inside (c .before)) }
-
-shared-slice-copy-out-left-2 : tie.Need-shared-slice-copy-out-left-2
-shared-slice-copy-out-left-2 c = omega (arith, inside (c .before))
-
-cast-left : tie.Need-cast-left
-cast-left c = let h = read (c .before .before) in fits (search sizes depth 20) tt
-
-sub-left : tie.Need-sub-left
-sub-left c = let h = read (c .before .before) in fits (search sizes depth 20) tt
-
-mul-left-3 : tie.Need-mul-left-3
-mul-left-3 c = record { fits = omega (arith, inside (c .before .before)) }
-
-shared-slice-copy-out-left-3 : tie.Need-shared-slice-copy-out-left-3
-shared-slice-copy-out-left-3 c = omega (arith, inside (c .before .before))
-
-cast-left-2 : tie.Need-cast-left-2
-cast-left-2 c = let h = read (c .before .before .before) in fits (search sizes depth 20) tt
-
-add-left-2 : tie.Need-add-left-2
-add-left-2 c = let h = read (c .before .before .before) in fits (search sizes depth 20) tt
-
-mul-all : tie.Need-mul-all
-mul-all c = record { fits = omega (arith, inside (c .before .before .before)) }
-
-shared-slice-copy-out-all : tie.Need-shared-slice-copy-out-all
-shared-slice-copy-out-all c = omega (arith, inside (c .before .before .before))
-
-cast-all : tie.Need-cast-all
-cast-all c = let h = read (c .before .before .before .before) in fits (search sizes depth 20) tt
-
-sub-all : tie.Need-sub-all
-sub-all c = let h = read (c .before .before .before .before) in fits (search sizes depth 20) tt
-
-mul-all-2 : tie.Need-mul-all-2
-mul-all-2 c = record { fits = omega (arith, inside (c .before .before .before .before)) }
-
-shared-slice-copy-out-all-2 : tie.Need-shared-slice-copy-out-all-2
-shared-slice-copy-out-all-2 c = omega (arith, inside (c .before .before .before .before))
-
-cast-all-2 : tie.Need-cast-all-2
-cast-all-2 c = let h = read (c .before .before .before .before .before) in fits (search sizes depth 20) tt
-
-add-all : tie.Need-add-all
-add-all c = let h = read (c .before .before .before .before .before) in fits (search sizes depth 20) tt
-
 -- the sum is the target, which is not below 0
 sum-is : (c : tie.After-south) → let m = c .before .before in
     let a = m .before .before .args in
@@ -164,4 +102,19 @@ returns : tie.Need-returns
 returns c = let e = ap natAbs (made c) in (e, omega (arith, e, size (c .before .before .before .before .before)))
 
 pub target-spec : {M : Type 1} → statement M
-target-spec = tie.close (tie.spec mul-n masses-start-requires west-requires south-requires add-south add-north add-left mul-left shared-slice-copy-out-left mul-left-2 shared-slice-copy-out-left-2 cast-left sub-left mul-left-3 shared-slice-copy-out-left-3 cast-left-2 add-left-2 mul-all shared-slice-copy-out-all cast-all sub-all mul-all-2 shared-slice-copy-out-all-2 cast-all-2 add-all cast-result returns)
+target-spec = tie.close (tie.spec
+    mul-n masses-start-requires west-requires south-requires (λ c. let h = inside c in search needs)
+    (λ c. let h = inside c in search needs) (λ c. let h = inside c in search needs) (λ c. let h = inside c in search needs)
+    (λ c. let h = inside c in search needs) (λ c. let h = inside (c .before) in search needs)
+    (λ c. let h = inside (c .before) in search needs) (λ c. let h = read (c .before .before) in fits (search sizes depth 20) tt)
+    (λ c. let h = read (c .before .before) in fits (search sizes depth 20) tt) (λ c. let h = inside (c .before .before) in search needs)
+    (λ c. let h = inside (c .before .before) in search needs)
+    (λ c. let h = read (c .before .before .before) in fits (search sizes depth 20) tt)
+    (λ c. let h = read (c .before .before .before) in fits (search sizes depth 20) tt)
+    (λ c. let h = inside (c .before .before .before) in search needs) (λ c. let h = inside (c .before .before .before) in search needs)
+    (λ c. let h = read (c .before .before .before .before) in fits (search sizes depth 20) tt)
+    (λ c. let h = read (c .before .before .before .before) in fits (search sizes depth 20) tt)
+    (λ c. let h = inside (c .before .before .before .before) in search needs)
+    (λ c. let h = inside (c .before .before .before .before) in search needs)
+    (λ c. let h = read (c .before .before .before .before .before) in fits (search sizes depth 20) tt)
+    (λ c. let h = read (c .before .before .before .before .before) in fits (search sizes depth 20) tt) cast-result returns)
