@@ -35,15 +35,6 @@ abbrev μ-loop : tie.MeasureT-loop
 mul-n : tie.Need-mul-n Inv-loop μ-loop
 mul-n c = record { fits = omega (arith, elements-le (c .before .before .args .shape) (c .before .before .pre .admits)) }
 
-fluxes-start-requires : tie.Need-fluxes-start-requires Inv-loop μ-loop
-fluxes-start-requires c κs = c .before .before .pre .admits
-
-masses-start-requires : tie.Need-masses-start-requires Inv-loop μ-loop
-masses-start-requires c κs = c .before .before .before .pre .admits
-
-outflows-start-requires : tie.Need-outflows-start-requires Inv-loop μ-loop
-outflows-start-requires c κs = c .before .before .before .before .pre .admits
-
 loop-holds : tie.Need-loop-holds Inv-loop μ-loop
 loop-holds c = (omega arith, omega arith, written-none _ _ _ _ _)
 
@@ -140,7 +131,7 @@ returns c = written-moved _ _ _ (c .before .before .before .masses-start .ensure
 
 pub amounts-spec : {M : Type 1} → statement M
 amounts-spec = tie.close (tie.spec
-    Inv-loop μ-loop mul-n fluxes-start-requires masses-start-requires outflows-start-requires loop-holds
+    Inv-loop μ-loop mul-n (λ c κs. search needs) (λ c κs. search needs) (λ c κs. search needs) loop-holds
     (λ c. let h = sizes c in search needs) (λ c. let h = sizes c in search needs) (λ c. search needs) (λ c. search needs)
     (λ c. let h = sizes c in search needs) mass-requires (λ c. let h = sizes (c .before .before) in search needs)
     (λ c. let h = sizes (c .before .before) in search needs) (λ c. let h = sizes (c .before .before .before) in search needs)

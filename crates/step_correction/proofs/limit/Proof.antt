@@ -35,9 +35,6 @@ placed c = record { admits = c .before .before .before .pre .0 .admits; inside =
 small : (c : tie.In-loop Inv-loop μ-loop) → elements (c .before .before .before .args .shape) ≤ mostElements
 small c = elements-le (c .before .before .before .args .shape) (c .before .before .before .pre .0 .admits)
 
-east-requires : tie.Need-east-requires Inv-loop μ-loop
-east-requires c κs = placed c
-
 limited-face-requires : tie.Need-limited-face-requires Inv-loop μ-loop
 limited-face-requires c κs =
     let i = c .before in
@@ -106,7 +103,7 @@ returns c = written-moved _ _ _ refl refl (omega arith) (c .before .loop .inv .1
 
 pub limit-spec : {M : Type 1} → statement M
 limit-spec = tie.close (tie.spec
-    Inv-loop μ-loop mul-n loop-holds east-requires limited-face-requires add-limited-face north-requires limited-face-requires-2
+    Inv-loop μ-loop mul-n loop-holds (λ c κs. placed c) limited-face-requires add-limited-face north-requires limited-face-requires-2
     (λ c. let h = north-made c in fits (search sizes depth 20) tt) add-report mul-report slice-set-from-report
     (λ c. let h = east-made (c .before .before) in fits (search sizes depth 20) tt) mul-t10 slice-set-from-report-2 (λ c. search needs)
     (λ c. search needs) loop-again same-length returns)

@@ -21,9 +21,6 @@ use Rattle.step_correction.specs.Amounts.{NotNegative, limitedFace}
 use Rattle.step_correction.proofs.limited_face.Statement.{statement}
 use Rattle.step_correction.proofs.limited_face.Tie as tie
 
-fluxes-start-requires : tie.Need-fluxes-start-requires
-fluxes-start-requires c κs = c .pre .0 .admits
-
 -- the face's flux is there
 flux-there : (c : tie.After-fluxes-start) → let b = c .before in
     (c .fluxes-start .result ≡ fluxesStart (b .args .shape)) × (b .args .f < faces (b .args .shape)) × (workUsed (b .args .shape) ≤ length (b .args .work .now)) × (workUsed (b .args .shape) ≤ mostUsed)
@@ -45,12 +42,6 @@ donor-inside c =
     let b = c .before .before .before in
     let a = b .args in
     subst (λ (d : ℕ). d < elements (a .shape)) (sym (donor-is c)) (cond-ind (nonNeg (at (a .work .now) (fluxesStart (a .shape) + a .f))) (a .behind) (a .ahead) (λ d. d < elements (a .shape)) (λ _. b .pre .1 .1 .0) (λ _. b .pre .1 .1 .1))
-
-outflows-start-requires : tie.Need-outflows-start-requires
-outflows-start-requires c κs = c .before .before .before .pre .0 .admits
-
-masses-start-requires : tie.Need-masses-start-requires
-masses-start-requires c κs = c .before .before .before .before .pre .0 .admits
 
 -- the donor's outflow and mass are there
 amounts-there : (c : tie.After-masses-start) → let d = c .before .before in
@@ -104,8 +95,8 @@ returns c =
 
 pub limited-face-spec : {M : Type 1} → statement M
 limited-face-spec = tie.close (tie.spec
-    fluxes-start-requires (λ c. let h = flux-there c in search needs) (λ c. let h = flux-there c in search needs)
-    (λ c. let h = flux-there c in search needs) (λ c κs. search needs) outflows-start-requires masses-start-requires
+    (λ c κs. search needs) (λ c. let h = flux-there c in search needs) (λ c. let h = flux-there c in search needs)
+    (λ c. let h = flux-there c in search needs) (λ c κs. search needs) (λ c κs. search needs) (λ c κs. search needs)
     (λ c. let h = amounts-there c in search needs) (λ c. let h = amounts-there c in search needs)
     (λ c. let h = amounts-there c in search needs) (λ c. let h = amounts-there (c .before) in search needs)
     (λ c. let h = amounts-there (c .before) in search needs) (λ c. let h = amounts-there (c .before) in search needs) cut-requires returns)

@@ -20,12 +20,6 @@ use Rattle.step_correction.proofs.outflow.Tie as tie
 mul-n : tie.Need-mul-n
 mul-n c = record { fits = omega (arith, elements-le (c .before .args .shape) (c .before .pre .0 .admits)) }
 
-west-requires : tie.Need-west-requires
-west-requires c κs = c .before .pre .0
-
-south-requires : tie.Need-south-requires
-south-requires c κs = c .before .before .pre .0
-
 -- the four faces are there
 inside : (c : tie.After-south) → let b = c .before .before .before in
     FaceOwners (b .args .shape) (b .args .e) (c .before .west .result) (c .south .result) × (length (b .args .fluxes .now) ≡ faces (b .args .shape))
@@ -78,7 +72,7 @@ returns c =
 
 pub outflow-spec : {M : Type 1} → statement M
 outflow-spec = tie.close (tie.spec
-    mul-n west-requires south-requires (λ c. let h = inside c in search needs) (λ c. let h = inside c in search needs)
+    mul-n (λ c κs. search needs) (λ c κs. search needs) (λ c. let h = inside c in search needs) (λ c. let h = inside c in search needs)
     (λ c. let h = inside c in search needs) (λ c. let h = inside c in search needs) positive-requires
     (λ c. let h = inside (c .before .before) in search needs) (λ c. let h = inside (c .before .before) in search needs) negative-requires
     add-along (λ c. let h = inside (c .before .before .before .before) in search needs)

@@ -28,15 +28,6 @@ Inv-loop work start stride first second third sum₀ at₀ r₀ sum at r = (r �
 abbrev μ-loop : tie.MeasureT-loop
 μ-loop work start stride first second third sum₀ at₀ r₀ sum at r = 3 - r
 
-stage-start-requires : tie.Need-stage-start-requires Inv-loop μ-loop
-stage-start-requires c κs = (c .pre .0 .admits, omega arith)
-
-stage-start-requires-2 : tie.Need-stage-start-requires-2 Inv-loop μ-loop
-stage-start-requires-2 c κs = (c .before .pre .0 .admits, omega arith)
-
-stage-start-requires-3 : tie.Need-stage-start-requires-3 Inv-loop μ-loop
-stage-start-requires-3 c κs = (c .before .before .pre .0 .admits, omega arith)
-
 loop-holds : tie.Need-loop-holds Inv-loop μ-loop
 unfolding sumℤ
 loop-holds c = (omega arith, omega (arith, mul-zero (c .before .before .before .args .stride)), record { same = refl; bound = record { within = omega arith } })
@@ -108,7 +99,7 @@ returns c =
 
 pub face-sum-spec : {M : Type 1} → statement M
 face-sum-spec = tie.close (tie.spec
-    Inv-loop μ-loop stage-start-requires stage-start-requires-2 stage-start-requires-3 loop-holds (λ c. let h = inside c in search needs)
+    Inv-loop μ-loop (λ c κs. search needs) (λ c κs. search needs) (λ c κs. search needs) loop-holds (λ c. let h = inside c in search needs)
     (λ c. let h = inside c in search needs) (λ c. let h = inside c in search needs) (λ c. let h = inside (c .before) in search needs)
     (λ c. let h = inside (c .before) in search needs) (λ c. let h = inside (c .before) in search needs)
     (λ c. let h = inside (c .before .before) in search needs) (λ c. let h = inside (c .before .before) in search needs)

@@ -35,12 +35,6 @@ abbrev μ-loop : tie.MeasureT-loop
 mul-n : tie.Need-mul-n Inv-loop μ-loop
 mul-n c = record { fits = omega (arith, elements-le (c .before .args .shape) (c .before .pre .1 .admits)) }
 
-fluxes-start-requires : tie.Need-fluxes-start-requires Inv-loop μ-loop
-fluxes-start-requires c κs = c .before .pre .1 .admits
-
-north-fluxes-start-requires : tie.Need-north-fluxes-start-requires Inv-loop μ-loop
-north-fluxes-start-requires c κs = c .before .before .pre .1 .admits
-
 loop-holds : tie.Need-loop-holds Inv-loop μ-loop
 loop-holds c = (omega arith, written-none _ _ _ _ _)
 
@@ -153,7 +147,7 @@ returns c = written-moved _ _ _ (c .before .before .before .fluxes-start .ensure
 
 pub fluxes-spec : {M : Type 1} → statement M
 fluxes-spec = tie.close (tie.spec
-    Inv-loop μ-loop mul-n fluxes-start-requires north-fluxes-start-requires loop-holds (λ c. search needs) shared-slice-copy-out-face-flux
+    Inv-loop μ-loop mul-n (λ c κs. search needs) (λ c κs. search needs) loop-holds (λ c. search needs) shared-slice-copy-out-face-flux
     cast-face-flux east-requires face-flux-requires (λ c. let h = sizes (c .before .before .before .before .before) in search needs)
     (λ c. let h = sizes (c .before .before .before .before .before) in search needs) shared-slice-copy-out-face-flux-2 cast-face-flux-2
     north-requires face-flux-requires-2

@@ -45,12 +45,6 @@ add-stage-start c = record { fits = omega (arith, c .before .before .pre .1 .1 .
 stage-start-requires-2 : tie.Need-stage-start-requires-2 Inv-loop μ-loop
 stage-start-requires-2 c κs = let h = c .before .before .pre in (h .0, omega (arith, h .1 .1 .0))
 
-stage-start-requires-3 : tie.Need-stage-start-requires-3 Inv-loop μ-loop
-stage-start-requires-3 c κs = (c .before .before .before .pre .0, omega arith)
-
-sums-start-requires : tie.Need-sums-start-requires Inv-loop μ-loop
-sums-start-requires c κs = c .before .before .before .before .pre .0
-
 loop-holds : tie.Need-loop-holds Inv-loop μ-loop
 loop-holds c = (omega arith, omega arith, omega arith, omega arith, written-none _ _ _ _ _)
 
@@ -184,7 +178,7 @@ returns c = let t = c .before .before in written-moved _ _ _ (t .before .before 
 
 pub advance-spec : {M : Type 1} → statement M
 advance-spec = tie.close (tie.spec
-    Inv-loop μ-loop mul-n stage-start-requires add-stage-start stage-start-requires-2 stage-start-requires-3 sums-start-requires
+    Inv-loop μ-loop mul-n stage-start-requires add-stage-start stage-start-requires-2 (λ c κs. search needs) (λ c κs. search needs)
     (λ c. search needs) (λ c. search needs) loop-holds (λ c. let h = sizes (c .before .before) in search needs)
     (λ c. let h = sizes (c .before .before) in search needs) (λ c. let h = sizes (c .before .before .before) in search needs)
     part-tendencies-end tendencies-requires advance-element-requires add-from add-to add-sums (λ c. search needs) (λ c. search needs)

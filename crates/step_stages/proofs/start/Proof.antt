@@ -28,12 +28,6 @@ abbrev μ-loop : tie.MeasureT-loop
 mul-n : tie.Need-mul-n Inv-loop μ-loop
 mul-n c = record { fits = omega (arith, elements-le (c .before .before .args .shape) (c .before .before .pre .0)) }
 
-stage-start-requires : tie.Need-stage-start-requires Inv-loop μ-loop
-stage-start-requires c κs = (c .before .before .pre .0, omega arith)
-
-sums-start-requires : tie.Need-sums-start-requires Inv-loop μ-loop
-sums-start-requires c κs = c .before .before .before .pre .0
-
 loop-holds : tie.Need-loop-holds Inv-loop μ-loop
 loop-holds c = (omega arith, omega arith, omega arith, omega arith, written-none _ _ _ _ _)
 
@@ -91,6 +85,6 @@ returns c = let s = sizes (c .before .before) in written-moved _ _ _ (s .0) (s .
 
 pub start-spec : {M : Type 1} → statement M
 start-spec = tie.close (tie.spec
-    Inv-loop μ-loop mul-n stage-start-requires sums-start-requires loop-holds add-end mul-start-element (λ c. search needs)
+    Inv-loop μ-loop mul-n (λ c κs. search needs) (λ c κs. search needs) loop-holds add-end mul-start-element (λ c. search needs)
     (λ c. search needs) part-start-element-end start-element-requires add-to add-sums (λ c. search needs) (λ c. search needs) loop-again
     same-length returns)

@@ -51,8 +51,7 @@ returns : tie.Need-returns Inv-loop μ-loop
 returns c = let a = c .before .before .args in let e : c .before .loop .q ≡ 3 = omega arith in are-eq (rw e at (c .before .loop .inv .1)) (terms-are (a .c .now) (a .v .now) (a .start) (a .stride) (a .place))
 
 pub along-spec : {M : Type 1} → statement M
-along-spec = tie.close (tie.spec
-    Inv-loop μ-loop loop-holds (λ c. search needs) (λ c. search needs) (λ c. let h = reach c in search needs)
+along-spec = tie.close (tie.spec Inv-loop μ-loop loop-holds (λ c. search needs) (λ c. search needs) (λ c. let h = reach c in search needs)
     (λ c. let h = reach c in search needs) (λ c. let h = reach c in search needs) (λ c. let h = reach c in search needs) mul-x-4
     (λ c. search needs) (λ c. search needs) (λ c. search needs) (λ c. search needs) mul-x-7 add-x-3 (λ c. search needs)
     (λ c. search needs) loop-again returns)

@@ -14,12 +14,6 @@ use Rattle.step_upwind.proofs.side_winds.Tie as tie
 mul-n : tie.Need-mul-n
 mul-n c = record { fits = omega (arith, elements-le (c .before .args .shape) (c .before .pre .0 .admits)) }
 
-west-requires : tie.Need-west-requires
-west-requires c κs = c .before .pre .0
-
-south-requires : tie.Need-south-requires
-south-requires c κs = c .before .before .pre .0
-
 -- the four faces are there
 inside : (c : tie.After-south) → FaceOwners (c .before .before .before .args .shape) (c .before .before .before .args .e) (c .before .west .result) (c .south .result)
 inside c = face-owners (c .before .before .before .pre .0) (c .before .west .ensures) (c .south .ensures)
@@ -58,7 +52,7 @@ returns c =
 
 pub side-winds-spec : {M : Type 1} → statement M
 side-winds-spec = tie.close (tie.spec
-    mul-n west-requires south-requires (λ c. let h = inside c in search needs) (λ c. let h = inside c in search needs)
+    mul-n (λ c κs. search needs) (λ c κs. search needs) (λ c. let h = inside c in search needs) (λ c. let h = inside c in search needs)
     (λ c. let h = inside c in search needs) shared-slice-copy-out-t10 cast-t11 (λ c. search needs) shared-slice-copy-out-t14 cast-t15
     (λ c. let h = inside (c .before .before) in search needs) shared-slice-copy-out-t18 cast-t19 (λ c. search needs)
     shared-slice-copy-out-t22 cast-t23 returns)

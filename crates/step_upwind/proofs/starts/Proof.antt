@@ -22,18 +22,6 @@ Inv-loop c e west east south north behind ahead s₀ side₀ s side = (side ≤ 
 abbrev μ-loop : tie.MeasureT-loop
 μ-loop c e west east south north behind ahead s₀ side₀ s side = 4 - side
 
-west-requires : tie.Need-west-requires Inv-loop μ-loop
-west-requires c κs = c .pre
-
-east-requires : tie.Need-east-requires Inv-loop μ-loop
-east-requires c κs = c .before .pre
-
-south-requires : tie.Need-south-requires Inv-loop μ-loop
-south-requires c κs = c .before .before .pre
-
-north-requires : tie.Need-north-requires Inv-loop μ-loop
-north-requires c κs = c .before .before .before .pre
-
 loop-holds : tie.Need-loop-holds Inv-loop μ-loop
 unfolding table
 loop-holds c = (omega arith, refl, refl)
@@ -77,6 +65,7 @@ returns c =
 
 pub starts-spec : {M : Type 1} → statement M
 starts-spec = tie.close (tie.spec
-    Inv-loop μ-loop west-requires east-requires south-requires north-requires loop-holds (λ c. search needs) (λ c. search needs)
+    Inv-loop μ-loop (λ c κs. search needs) (λ c κs. search needs) (λ c κs. search needs) (λ c κs. search needs) loop-holds
+    (λ c. search needs) (λ c. search needs)
     (λ c. search needs) (λ c. search needs) (λ c. search needs) (λ c. search needs) (λ c. search needs) (λ c. search needs)
     upwind-start-requires (λ c. search needs) (λ c. search needs) (λ c. search needs) (λ c. search needs) loop-again returns)

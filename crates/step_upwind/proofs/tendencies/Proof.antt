@@ -16,9 +16,6 @@ use Rattle.step_upwind.proofs.tendencies.Tie as tie
 side-winds-requires : tie.Need-side-winds-requires
 side-winds-requires c κs = (c .pre .0, c .pre .1 .1 .1)
 
-starts-requires : tie.Need-starts-requires
-starts-requires c κs = c .before .before .pre .0
-
 -- where the upwind values begin, by the winds that were read
 begun : (c : tie.After-starts) → c .starts .result ≡ table 4 (sideStart (c .before .before .before .args .shape) (sideWinds (c .before .before .before .args .shape) (windAt (c .before .before .before .args .wind .now)) (c .before .before .before .args .e)) (c .before .before .before .args .e))
 begun c = let a = c .before .before .before .args in c .starts .ensures ∙ ap (λ w. table 4 (sideStart (a .shape) w (a .e))) (c .before .before .side-winds .ensures)
@@ -55,4 +52,4 @@ returns c =
 
 pub tendencies-spec : {M : Type 1} → statement M
 tendencies-spec = tie.close (tie.spec
-    side-winds-requires starts-requires upwind-values-requires (λ c. search needs) values-requires tendencies-requires returns)
+    side-winds-requires (λ c κs. search needs) upwind-values-requires (λ c. search needs) values-requires tendencies-requires returns)

@@ -30,9 +30,6 @@ abbrev μ-loop : tie.MeasureT-loop
 mul-n : tie.Need-mul-n Inv-loop μ-loop
 mul-n c = record { fits = omega (arith, elements-le (c .before .before .args .shape) (c .before .before .pre .0)) }
 
-stage-start-requires : tie.Need-stage-start-requires Inv-loop μ-loop
-stage-start-requires c κs = (c .before .before .pre .0, omega arith)
-
 loop-holds : tie.Need-loop-holds Inv-loop μ-loop
 unfolding blocks
 loop-holds c = (omega arith, omega arith, omega arith, refl)
@@ -102,7 +99,7 @@ returns c =
 
 pub finish-spec : {M : Type 1} → statement M
 finish-spec = tie.close (tie.spec
-    Inv-loop μ-loop mul-n stage-start-requires loop-holds target-requires (λ c. let h = ends (c .before) in search needs)
+    Inv-loop μ-loop mul-n (λ c κs. search needs) loop-holds target-requires (λ c. let h = ends (c .before) in search needs)
     (λ c. let h = ends (c .before) in search needs) (λ c. let h = ends (c .before) in search needs) (λ c. search needs)
     (λ c. search needs) (λ c. let h = ends (c .before) in search needs) (λ c. let h = ends (c .before .before) in search needs)
     (λ c. search needs) (λ c. search needs) (λ c. let h = ends (c .before .before) in search needs) close-requires (λ c. search needs)

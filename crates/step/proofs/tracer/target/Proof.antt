@@ -26,15 +26,6 @@ use Rattle.step.proofs.tracer.target.Tie as tie
 mul-n : tie.Need-mul-n
 mul-n c = record { fits = omega (arith, elements-le (c .before .args .shape) (c .before .pre .1 .admits)) }
 
-masses-start-requires : tie.Need-masses-start-requires
-masses-start-requires c κs = c .before .pre .1 .admits
-
-west-requires : tie.Need-west-requires
-west-requires c κs = c .before .before .pre .1
-
-south-requires : tie.Need-south-requires
-south-requires c κs = c .before .before .before .pre .1
-
 -- the element and the four faces are there
 inside : (c : tie.After-south) → let m = c .before .before in
     let a = m .before .before .args in
@@ -103,7 +94,7 @@ returns c = let e = ap natAbs (made c) in (e, omega (arith, e, size (c .before .
 
 pub target-spec : {M : Type 1} → statement M
 target-spec = tie.close (tie.spec
-    mul-n masses-start-requires west-requires south-requires (λ c. let h = inside c in search needs)
+    mul-n (λ c κs. search needs) (λ c κs. search needs) (λ c κs. search needs) (λ c. let h = inside c in search needs)
     (λ c. let h = inside c in search needs) (λ c. let h = inside c in search needs) (λ c. let h = inside c in search needs)
     (λ c. let h = inside c in search needs) (λ c. let h = inside (c .before) in search needs)
     (λ c. let h = inside (c .before) in search needs) (λ c. let h = read (c .before .before) in fits (search sizes depth 20) tt)
