@@ -12,7 +12,7 @@ pub const TENTATIVE: usize = 3;
 const STAGES: usize = TENTATIVE + 1;
 
 // The numbers of a stage.
-pub fn stage_length(shape: Shape) -> usize
+fn stage_length(shape: Shape) -> usize
     requires { ⌜ Admitted shape ⌝ }
     ensures { λ r. ⌜ r ≡ stageLength shape ⌝ }
 {

@@ -21,6 +21,7 @@ use Rattle.whole.proofs.WholeLaws.{eq-parts, add-parts, sub-parts-of, positive-
 use Rattle.whole.proofs.Sizes.{exacts, exact}
 use Rattle.rules.specs.declared.Shape.{Shape}
 use Rattle.rules.specs.Field.{elements}
+use Rattle.rules.specs.Sizes.{mostElements}
 use Rattle.step_grid.specs.Place.{Placed}
 use Rattle.step_upwind.specs.Upwind.{sign, behinds, aheads, lasts, strides, upwindStart}
 use Rattle.step_grid.proofs.PlaceLaws.{west-in, east-in, south-in, north-in}
@@ -47,9 +48,13 @@ unfolding positive negative
 chosen (pos n) b a = eq-parts (omega (arith, add-parts (pos b) (pos 0 *ℤ (pos b -ℤ pos a)), positive-mul 0 (pos b -ℤ pos a), negative-mul 0 (pos b -ℤ pos a)))
 chosen (negsuc n) b a = ap (λ z. pos b +ℤ z) (minus-one (pos b -ℤ pos a)) ∙ eq-parts (omega (arith, sub-parts-of (pos b) (pos b -ℤ pos a), sub-parts-of (pos b) (pos a)))
 
+-- the places of a stage on the largest grid
+abbrev pub mostPlaces : ℕ
+mostPlaces = mostElements * 9
+
 -- a place as the machine reads it
-pub place-small : (b : ℕ) → b < 40960 → Within 40960 (toZ w64 b)
-place-small b h = subst (Within 40960) (sym (toZ-pos w64 {n = b} (omega arith))) (record { within = omega arith })
+pub place-small : (b : ℕ) → b < mostPlaces → Within mostPlaces (toZ w64 b)
+place-small b h = subst (Within mostPlaces) (sym (toZ-pos w64 {n = b} (omega arith))) (record { within = omega arith })
 
 pub chosen-small : (c : ℤ) (b a n : ℕ) → b < n → a < n → cond (nonNeg c) b a < n
 chosen-small (pos k) b a n hb ha = hb
@@ -59,10 +64,10 @@ chosen-small (negsuc k) b a n hb ha = ha
 abbrev pub machinePlace : ℤ → ℤ → ℤ → ℤ
 machinePlace s b a = toZ w64 (ofZ w64 (b +ℤ toZ w64 (ofZ w64 (toZ w64 (ofZ w64 s) *ℤ toZ w64 (ofZ w64 (b -ℤ a))))))
 
-place-exact : (s b a : ℤ) → Within 1 s → Within 40960 b → Within 40960 a → machinePlace s b a ≡ b +ℤ s *ℤ (b -ℤ a)
+place-exact : (s b a : ℤ) → Within 1 s → Within mostPlaces b → Within mostPlaces a → machinePlace s b a ≡ b +ℤ s *ℤ (b -ℤ a)
 place-exact s b a hs hb ha = exact (search exacts depth 20) tt
 
-pub place-is : (c s : ℤ) (b a : ℕ) → s ≡ sign c → b < 40960 → a < 40960 → machinePlace s (toZ w64 b) (toZ w64 a) ≡ pos (cond (nonNeg c) b a)
+pub place-is : (c s : ℤ) (b a : ℕ) → s ≡ sign c → b < mostPlaces → a < mostPlaces → machinePlace s (toZ w64 b) (toZ w64 a) ≡ pos (cond (nonNeg c) b a)
 place-is c s b a h hb ha =
     let eb : toZ w64 b ≡ pos b = toZ-pos w64 (omega arith) in
     let ea : toZ w64 a ≡ pos a = toZ-pos w64 (omega arith) in

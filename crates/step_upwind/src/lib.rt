@@ -90,7 +90,7 @@ fn upwind_values(phi: &[i64], starts: &[usize; 4]) -> [i64; UPWIND_VALUES]
     let mut u = [0i64; UPWIND_VALUES];
     for m in 0..UPWIND_VALUES {
         let side = m / SIDE;
-        let stride = SIDE - EAST_LINE * (side / 2);
+        let stride = SIDE - (SIDE - 1) * (side / 2);
         let place = starts[side] + stride * (m % SIDE);
         u[m] = phi[place];
     }

@@ -43,7 +43,7 @@ returns c = let e : c .before .loop .m ≡ 12 = omega arith in (rw e at (c .befo
 
 pub upwind-values-spec : {M : Type 1} → statement M
 upwind-values-spec = tie.close (tie.spec
-    Inv-loop μ-loop loop-holds (λ c. search needs) (λ c. search needs) (λ c. search needs) (λ c. search needs)
+    Inv-loop μ-loop loop-holds (λ c. search needs) (λ c. search needs) (λ c. search needs) (λ c. search needs) (λ c. search needs)
     (λ c. let h = reach (c .before) in search needs) (λ c. let h = reach (c .before) in search needs)
     (λ c. let h = reach (c .before) in search needs) shared-slice-copy-out-u (λ c. search needs) (λ c. search needs) (λ c. search needs)
     (λ c. search needs) loop-again returns)
