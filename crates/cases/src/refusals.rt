@@ -1,4 +1,5 @@
 // Each refusal of each call.
+ghost use Rattle.rules.specs.Field.{elements};
 use super::buffers;
 use super::calls;
 use rules::Shape;

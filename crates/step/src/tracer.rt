@@ -1,27 +1,31 @@
 // The step of one tracer, on its part of the field. Leaves: the shape is admitted, buffers are long enough, winds and the tracer's
 // total are in their ranges.
 ghost use mathlib.Core.Path.{_≡_};
-ghost use Prim.Native.Nat.{_+_, _*_, _≤_};
+ghost use Prim.Native.Nat.{_≤_};
 ghost use lib.ListN.{length};
 ghost use Rattle.whole.specs.Parts.{positive};
 ghost use Rattle.whole.specs.Table.{blocks, overwrite, at};
-ghost use Rattle.rules.specs.Field.{quadratic, elements, faces, total, Admitted, limit};
+ghost use Rattle.rules.specs.Field.{quadratic, elements, elementsLength, faces, workNeeded, total, limit, Admitted};
 ghost use Rattle.rules.specs.Correction.{target};
 ghost use Rattle.rules.specs.Step.{tracerStep};
 ghost use Rattle.rules.specs.Calls.{windAt};
+ghost use Rattle.rules.specs.Sizes.{targetSize};
 ghost use Rattle.step_grid.specs.Place.{Placed};
 ghost use Rattle.step_upwind.specs.Upwind.{WindsInRange};
 ghost use Rattle.step.specs.Finish.{Finished, massOf, newElement};
 use rules::Shape;
+use rules::element::NODES;
+use rules::element::NUMBERS;
+use step_layout::TENTATIVE;
 
 // An element's target: its mass, less what leaves by its east and north face, and what comes by its west and south face.
 fn target(work: &[i64], report: &[i32], shape: Shape, e: usize) -> u64
     requires { ⌜ Finished shape (now work) (now report) ⌝ }
     requires { ⌜ Placed shape e ⌝ }
-    ensures { λ r. ⌜ (r ≡ positive (target shape (massOf shape (now (work .entry))) (at (now (report .entry))) e)) × (r ≤ 500000000) ⌝ }
+    ensures { λ r. ⌜ (r ≡ positive (target shape (massOf shape (now (work .entry))) (at (now (report .entry))) e)) × (r ≤ targetSize) ⌝ }
 {
     let n = shape.nx * shape.ny;
-    let masses = 5 * (n * 9) + n + n;
+    let masses = step_layout::masses_start(shape);
     let west = step_grid::west(shape, e);
     let south = n + step_grid::south(shape, e);
     let north = n + e;
@@ -33,17 +37,17 @@ fn target(work: &[i64], report: &[i32], shape: Shape, e: usize) -> u64
 // Every element is closed with its tentative values and its target.
 fn finish(part: &mut [u32], work: &[i64], report: &[i32], shape: Shape)
     requires { ⌜ Admitted shape ⌝ }
-    requires { ⌜ length (now part) ≡ elements shape * 10 ⌝ }
+    requires { ⌜ length (now part) ≡ elementsLength quadratic shape ⌝ }
     requires { ⌜ Finished shape (now work) (now report) ⌝ }
     ensures { λ _. ⌜ now (part .exit) ≡ blocks (elements shape) (newElement shape (now (work .entry)) (now (report .entry))) ⌝ }
 {
     let n = shape.nx * shape.ny;
     let mut start = 0;
-    let mut psi = 3 * (n * 9);
+    let mut psi = step_layout::stage_start(shape, TENTATIVE);
     for e in 0..n {
         let goal = target(work, report, shape, e);
-        let end = start + 10;
-        let psi_end = psi + 9;
+        let end = start + NUMBERS;
+        let psi_end = psi + NODES;
         limiter::close(&mut part[start..end], &work[psi..psi_end], goal);
         start = end;
         psi = psi_end;
@@ -59,11 +63,11 @@ pub(crate) fn step(
     shape: Shape,
 )
     requires { ⌜ Admitted shape ⌝ }
-    requires { ⌜ length (now part) ≡ elements shape * 10 ⌝ }
-    requires { ⌜ total quadratic shape (now part) ≤ 100000000 ⌝ }
+    requires { ⌜ length (now part) ≡ elementsLength quadratic shape ⌝ }
+    requires { ⌜ total quadratic shape (now part) ≤ limit ⌝ }
     requires { ⌜ WindsInRange shape (now wind) ⌝ }
     requires { ⌜ faces shape ≤ length (now report) ⌝ }
-    requires { ⌜ 64 * elements shape ≤ length (now work) ⌝ }
+    requires { ⌜ workNeeded shape ≤ length (now work) ⌝ }
     ensures { λ _. ⌜ now (part .exit) ≡ tracerStep quadratic shape (windAt (now (wind .entry))) (now (part .entry)) .part ⌝ }
     ensures { λ _. ⌜ now (report .exit) ≡ overwrite 0 (tracerStep quadratic shape (windAt (now (wind .entry))) (now (part .entry)) .report) (now (report .entry)) ⌝ }
 {

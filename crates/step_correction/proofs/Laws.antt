@@ -1,4 +1,4 @@
--- The parts of a flux, and its cut by one division toward zero.
+-- The parts of a flux, its cut by one division toward zero, and an element's mass as it is lent: by cases on signs and on the test.
 use mathlib.Core.Path.{_≡_, refl, sym, ap, ap₂, _∙_}
 use mathlib.Core.Bool.{true, false}
 use Prim.Native.Nat.{ℕ, zero, suc, _+_, _*_, _/_, _≤_, _<_}
@@ -23,6 +23,7 @@ use Rattle.rules.proofs.CorrectionLaws.{abs-withSign}
 use Rattle.rules.specs.Field.{quadratic, elementLength, cell, remainder, weighted, mass}
 use Rattle.rules.specs.Limiter.{rescaled}
 use Rattle.rules.specs.Correction.{withSign, cut}
+use Rattle.rules.specs.Sizes.{fluxSize, outflowSize}
 
 -- ---- the parts
 pub negative-below : (z : ℤ) → z <ℤ pos 0 → pos 0 -ℤ z ≡ pos (negative z)
@@ -96,6 +97,6 @@ mass-part p e k ten = ap₂ _+_ (sum-cong 9 _ _ (λ v h. ap (λ x. quadratic .we
     number v h = let z : 0 * 10 + v ≡ v = omega arith in ap (λ n. getD (take k (drop (e * 10) p)) n 0) z ∙ part-at 10 (e * 10) k p v 0 ten h
 
 -- the sum of four results, as the machine adds them
-pub added : (r s t u a b c d : ℤ) → Are 45900000000 r a → Are 45900000000 s b → Are 45900000000 t c → Are 45900000000 u d
-    → Are 183600000000 (toZ w64 (ofZ w64 (toZ w64 (ofZ w64 (toZ w64 (ofZ w64 r) +ℤ toZ w64 (ofZ w64 s))) +ℤ toZ w64 (ofZ w64 (toZ w64 (ofZ w64 t) +ℤ toZ w64 (ofZ w64 u)))))) (a +ℤ b +ℤ (c +ℤ d))
+pub added : (r s t u a b c d : ℤ) → Are fluxSize r a → Are fluxSize s b → Are fluxSize t c → Are fluxSize u d
+    → Are outflowSize (toZ w64 (ofZ w64 (toZ w64 (ofZ w64 (toZ w64 (ofZ w64 r) +ℤ toZ w64 (ofZ w64 s))) +ℤ toZ w64 (ofZ w64 (toZ w64 (ofZ w64 t) +ℤ toZ w64 (ofZ w64 u)))))) (a +ℤ b +ℤ (c +ℤ d))
 added r s t u a b c d p q v w = bounded (search exacts depth 20) tt tt refl

@@ -1,83 +1,86 @@
--- A face's sum over its nodes, and its size.
-use mathlib.Core.Path.{_≡_, refl, sym, ap, _∙_}
+-- A face's sum over its nodes, term by term: it is the rules', it is small, and it reads the stages alone.
+use mathlib.Core.Path.{_≡_, refl, sym, ap, subst}
 use mathlib.Core.List.{List}
 use Prim.Native.Nat.{ℕ, _+_, _*_, _≤_, _<_}
 use native.Mathlib.Nat.{mul-le-mul-left}
 use native.Mathlib.Omega.{arith}
 use lib.IntN.{ℤ, pos, _+ℤ_, _*ℤ_}
-use lib.ListN.{getD}
+use lib.Signed.{nonNeg}
 use Rattle.whole.specs.Table.{at}
 use Rattle.whole.specs.Bound.{Within, truncDiv}
 use Rattle.whole.specs.Sum.{sum, sumℤ}
-use lib.Signed.{nonNeg}
 use Rattle.whole.proofs.Cases.{cond-ind}
 use Rattle.whole.proofs.BoundLaws.{within-le, within-add, within-mul, within-pos, within-sum}
 use Rattle.whole.proofs.SumLaws.{sum-mono, sumℤ-cong}
-use Rattle.whole.proofs.Sizes.{peak-at}
-use Rattle.rules.specs.Field.{quadratic}
+use Rattle.rules.specs.declared.Shape.{Shape}
+use Rattle.rules.specs.Field.{quadratic, elements}
 use Rattle.rules.specs.Stages.{faceSum, fluxOf}
+use Rattle.rules.specs.Sizes.{stageSize, faceSumSize}
+use Rattle.rules.proofs.QuadraticLaws.{line-weight-le}
+use Rattle.step_layout.specs.Sections.{stageLength, stageStart}
 use Rattle.step_upwind.specs.Upwind.{upwindStart}
-use Rattle.rules.proofs.QuadraticLaws.{lineWeights, line-weight-is}
-use Rattle.step_fluxes.specs.Face.{Staged, stagesSum, faceFlux}
+use Rattle.step_fluxes.specs.Face.{Staged, lineValue, stagesSum, faceFlux}
 
-module _ (w : List ℤ) (n start stride : ℕ) where
-  -- the stages' values at node r, and its term
-  abbrev pub values : ℕ → ℤ
-  values r = at w (start + stride * r) +ℤ pos 4 *ℤ at w (2 * n + (start + stride * r)) +ℤ at w (n + (start + stride * r))
+-- the nodes of a line are within a stage where its last one is
+pub line-room : {n : ℕ} (start stride r : ℕ) → start + 2 * stride < n → r < 3 → start + stride * r < n
+line-room start stride r h l = let q : r ≤ 2 = omega arith in omega (arith, mul-le-mul-left stride q)
 
-  abbrev pub term : ℕ → ℤ
-  term r = getD lineWeights r (pos 0) *ℤ values r
+-- a number of stage m, which starts at s
+pub read-small : {g : Shape} {w : List ℤ} (m s i : ℕ) → Staged g w → s ≡ stageStart g m → m < 3 → i < stageLength g → Within stageSize (at w (s + i))
+read-small {w = w} m s i h e lm li = subst (λ x. Within stageSize (at w (x + i))) (sym e) (h .small m i lm li)
 
-  pub terms-are : sumℤ 3 term ≡ stagesSum w n start stride
+-- the term of node r, where stages 0, 1 and 2 start at a, b and d
+abbrev pub term : List ℤ → ℕ → ℕ → ℕ → ℕ → ℕ → ℕ → ℤ
+term w a b d start stride r = pos (quadratic .lineWeight r) *ℤ (at w (a + (start + stride * r)) +ℤ pos 4 *ℤ at w (d + (start + stride * r)) +ℤ at w (b + (start + stride * r)))
+
+module _ (g : Shape) (w : List ℤ) (start stride : ℕ) where
+  abbrev pub stagesTerm : ℕ → ℤ
+  stagesTerm = term w (stageStart g 0) (stageStart g 1) (stageStart g 2) start stride
+
+  -- the same terms, at starts that are only equal
+  pub same-terms : {a b d : ℕ} → a ≡ stageStart g 0 → b ≡ stageStart g 1 → d ≡ stageStart g 2 → term w a b d start stride ≡ stagesTerm
+  same-terms ea eb ed = λ i. term w (ea i) (eb i) (ed i) start stride
+
+  pub terms-are : sumℤ 3 stagesTerm ≡ stagesSum g w start stride
   unfolding stagesSum faceSum quadratic
-  terms-are = sumℤ-cong 3 term (λ r. pos (quadratic .lineWeight r) *ℤ values r) (λ r _. ap (λ x. x *ℤ values r) (line-weight-is r))
+  terms-are = refl
 
-  module _ (h : Staged w n) (room : start + 2 * stride < n) where
-    pub reach : (r : ℕ) → r < 3 → start + stride * r < n
-    reach r l = let q : r ≤ 2 = omega arith in omega (arith, mul-le-mul-left stride q)
+  module _ (h : Staged g w) (room : start + 2 * stride < stageLength g) where
+    value-small : (m r : ℕ) → m < 3 → r < 3 → Within stageSize (lineValue g w start stride m r)
+    value-small m r lm l = h .small m (start + stride * r) lm (line-room start stride r room l)
 
-    pub values-small : (r : ℕ) → r < 3 → (Within 1700000000 (at w (start + stride * r))) × (Within 1700000000 (at w (n + (start + stride * r)))) × (Within 1700000000 (at w (2 * n + (start + stride * r))))
-    values-small r l = (h .small _ (omega (arith, reach r l)), h .small _ (omega (arith, reach r l)), h .small _ (omega (arith, reach r l)))
-
-    pub terms-within : (m : ℕ) → m ≤ 3 → Within 183600000000 (sumℤ m term)
+    pub terms-within : (n : ℕ) → n ≤ 3 → Within faceSumSize (sumℤ n stagesTerm)
     unfolding sum
-    terms-within m l = within-le (within-sum m term bound each) (sum-mono bound m 3 l)
+    terms-within n l = within-le (within-sum n stagesTerm bound each) (omega (arith, sum-mono bound n 3 l))
       where
         bound : ℕ → ℕ
-        bound r = 61200000000
+        bound r = 4 * (6 * stageSize)
 
-        each : (r : ℕ) → r < m → Within (bound r) (term r)
+        each : (r : ℕ) → r < n → Within (bound r) (stagesTerm r)
         each r q =
-            let v = values-small r (omega arith) in
-            let x : Within 6 (getD lineWeights r (pos 0)) = record { within = peak-at lineWeights r } in
-            let y : Within 10200000000 (values r) = within-le (within-add (within-add (v .0) (within-mul (within-pos 4) (v .2))) (v .1)) (omega arith) in
-            within-mul x y
+            let k : r < 3 = omega arith in
+            let ω : Within 4 (pos (quadratic .lineWeight r)) = record { within = line-weight-le r k } in
+            let v = within-add (within-add (value-small 0 r (omega arith) k) (within-mul (within-pos 4) (value-small 2 r (omega arith) k))) (value-small 1 r (omega arith) k) in
+            within-le (within-mul ω v) (omega arith)
 
 -- ---- the flux of a face
-pub start-room : (c : ℤ) (behind ahead last stride n : ℕ) → last + 2 * stride < 9 → behind * 9 + 9 ≤ n → ahead * 9 + 9 ≤ n → upwindStart c behind ahead last + 2 * stride < n
-unfolding upwindStart
-start-room c behind ahead last stride n h b a = cond-ind (nonNeg c) _ _ (λ s. s + 2 * stride < n) (λ _. omega arith) (λ _. omega arith)
+module _ (g : Shape) (c : ℤ) (behind ahead last stride : ℕ) where
+  pub start-room : last + 2 * stride < 9 → behind < elements g → ahead < elements g → upwindStart c behind ahead last + 2 * stride < stageLength g
+  unfolding upwindStart
+  start-room h b a = cond-ind (nonNeg c) _ _ (λ s. s + 2 * stride < stageLength g) (λ _. omega arith) (λ _. omega arith)
 
-pub flux-is : (w : List ℤ) (n : ℕ) (c : ℤ) (behind ahead last stride : ℕ) → truncDiv (c *ℤ stagesSum w n (upwindStart c behind ahead last) stride) 4096 ≡ faceFlux w n c behind ahead last stride
-unfolding faceFlux fluxOf quadratic
-flux-is w n c behind ahead last stride = refl
+  pub flux-is : (w : List ℤ) → truncDiv (c *ℤ stagesSum g w (upwindStart c behind ahead last) stride) 4096 ≡ faceFlux g w c behind ahead last stride
+  unfolding faceFlux fluxOf quadratic
+  flux-is w = refl
 
--- fluxes read the stages alone
-pub flux-kept : (w w′ : List ℤ) (n : ℕ) (c : ℤ) (behind ahead last stride : ℕ) → last + 2 * stride < 9 → behind * 9 + 9 ≤ n → ahead * 9 + 9 ≤ n → ((i : ℕ) → i < 3 * n → at w i ≡ at w′ i) → faceFlux w n c behind ahead last stride ≡ faceFlux w′ n c behind ahead last stride
-unfolding faceFlux
-flux-kept w w′ n c behind ahead last stride h b a same = ap (fluxOf quadratic c) (sym (terms-are w n start stride)
-    ∙ sumℤ-cong 3 (term w n start stride) (term w′ n start stride) (λ r l. ap (λ x. getD lineWeights r (pos 0) *ℤ x) (each r l)) ∙ terms-are w′ n start stride)
-  where
-    start : ℕ
-    start = upwindStart c behind ahead last
+  -- fluxes read the stages alone
+  pub flux-kept : (w w′ : List ℤ) → last + 2 * stride < 9 → behind < elements g → ahead < elements g → ((m i : ℕ) → m < 3 → i < stageLength g → at w (stageStart g m + i) ≡ at w′ (stageStart g m + i))
+      → faceFlux g w c behind ahead last stride ≡ faceFlux g w′ c behind ahead last stride
+  unfolding faceFlux stagesSum faceSum quadratic
+  flux-kept w w′ h b a same = ap (fluxOf quadratic c) (sumℤ-cong 3 _ _ (λ r l. λ i. pos (quadratic .lineWeight r) *ℤ (each 0 r (omega arith) l i +ℤ pos 4 *ℤ each 2 r (omega arith) l i +ℤ each 1 r (omega arith) l i)))
+    where
+      start : ℕ
+      start = upwindStart c behind ahead last
 
-    room : start + 2 * stride < n
-    room = start-room c behind ahead last stride n h b a
-
-    place : (r : ℕ) → r < 3 → start + stride * r < n
-    place r l = let q : r ≤ 2 = omega arith in omega (arith, mul-le-mul-left stride q, room)
-
-    each : (r : ℕ) → r < 3 → values w n start stride r ≡ values w′ n start stride r
-    each r l =
-        let p = place r l in
-        λ i. same (start + stride * r) (omega arith) i +ℤ pos 4 *ℤ same (2 * n + (start + stride * r)) (omega arith) i +ℤ same (n + (start + stride * r)) (omega arith) i
+      each : (m r : ℕ) → m < 3 → r < 3 → lineValue g w start stride m r ≡ lineValue g w′ start stride m r
+      each m r lm l = same m (start + stride * r) lm (line-room start stride r (start-room h b a) l)

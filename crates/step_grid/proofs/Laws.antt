@@ -1,4 +1,4 @@
--- A neighbour's index by one test, for each of the four ways.
+-- A neighbour's index by one test, for each of the four ways: the rules' row and column around the grid, by cases on the last and the first.
 use mathlib.Core.Path.{_≡_, ap, _∙_}
 use mathlib.Core.Logic.{_≢_}
 use Prim.Native.Nat.{ℕ, suc, _+_, _*_, _-_, _/_, _%_, _≤_, _<_}

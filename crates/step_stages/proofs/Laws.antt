@@ -1,8 +1,8 @@
--- The stages' tables, and how large a sum of tendencies is.
+-- The stages' divisors and factors, by cases on the stage; where an element's numbers stand; how large its tendencies are.
 use mathlib.Core.Path.{_≡_, refl, sym, ap, _∙_}
 use mathlib.Core.List.{List, [], _∷_}
 use mathlib.Core.Logic.{_≢_}
-use Prim.Native.Nat.{ℕ, zero, suc, _+_, _*_, _/_, _%_, _≤_, _<_}
+use Prim.Native.Nat.{ℕ, zero, suc, _+_, _*_, _/_, _%_, _<_}
 use native.Mathlib.Nat.{div-one}
 use native.Mathlib.Omega.{arith}
 use lib.IntN.{ℤ, pos, negsuc}
@@ -18,7 +18,8 @@ use Rattle.rules.proofs.StageBounds.{quadratic-bounded, tendency-within}
 use Rattle.step_grid.specs.Place.{Placed}
 use Rattle.step_upwind.specs.Upwind.{asStage, WindsInRange}
 use Rattle.rules.specs.Field.{quadratic, cell, elementLength}
-use Rattle.whole.proofs.OverwriteLaws.{part-at, part-room}
+use Rattle.rules.specs.Sizes.{tendencySize, stageSize}
+use Rattle.whole.proofs.OverwriteLaws.{part-at}
 use Rattle.whole.specs.Bound.{Within, AllWithin, floorDiv}
 use Rattle.step_stages.specs.Advance.{factor, divisor, storedValue}
 
@@ -46,7 +47,7 @@ factors = pos 1 ∷ pos 1 ∷ pos 4 ∷ []
 pub factor-is : (m : ℕ) → getD factors m (pos 0) ≡ pos (factor m)
 factor-is m = List·getD-map pos (1 ∷ 1 ∷ 4 ∷ []) m 0
 
--- ---- number k of element e, in a section and in a tracer's part
+-- ---- number k of element e, in a stage and in a tracer's part
 pub flat : (e k : ℕ) → k < 9 → ((e * 9 + k) / 9 ≡ e) × ((e * 9 + k) % 9 ≡ k)
 flat e k h = (digits-div e h, digits-mod e h)
 
@@ -56,14 +57,10 @@ stored-at p e k n ten h =
     let f = flat e k h in
     ap pos (part-at 10 (e * 10) n p k 0 ten (omega arith)) ∙ (λ i. pos (getD p (sym (f .0) i * 10 + sym (f .1) i) 0))
 
--- stages 0, 1 and 2 end where section 3 begins
-pub three-sections : (l m : ℕ) → m < 3 → m * l + l ≤ 3 * l
-three-sections l m h = part-room l {s = m} {n = 3} h
-
 -- the tendencies of a stage, in a table
-pub tendencies-small : (g : Shape) (wind : List ℤ) (l : List ℤ) (e : ℕ) → Placed g e → WindsInRange g wind → AllWithin 1700000000 l → AllWithin 11900000000 (table 9 (tendency quadratic g (windAt wind) (asStage l) e))
+pub tendencies-small : (g : Shape) (wind : List ℤ) (l : List ℤ) (e : ℕ) → Placed g e → WindsInRange g wind → AllWithin stageSize l → AllWithin tendencySize (table 9 (tendency quadratic g (windAt wind) (asStage l) e))
 unfolding quadratic
 tendencies-small g wind l e p c h = record {
-  all = table-all (Within 11900000000) 9 (tendency quadratic g (windAt wind) (asStage l) e) (pos 0) (within-le (within-pos 0) (omega arith))
-      (λ k q. tendency-within quadratic quadratic-bounded g (p .admits .nx-above) (p .admits .ny-above) (windAt wind) (c .small) 1700000000 (asStage l) (λ e k. h .all (e * 9 + k)) e k (p .inside) q);
+  all = table-all (Within tendencySize) 9 (tendency quadratic g (windAt wind) (asStage l) e) (pos 0) (within-le (within-pos 0) (omega arith))
+      (λ k q. tendency-within quadratic quadratic-bounded g (p .admits .nx-above) (p .admits .ny-above) (windAt wind) (c .small) stageSize (asStage l) (λ e k. h .all (e * 9 + k)) e k (p .inside) q);
 }

@@ -1,4 +1,5 @@
--- Work holds document 01's stages: section m is stage m after m passes, and stage 3 is ψ.
+-- Work holds document 01's stages: after m passes it has stages 0 .. m and the sum of their tendencies, by induction over the passes, and
+-- stage 3 is ψ; their sizes are those of `StageBounds`.
 use mathlib.Core.Path.{_≡_, refl, sym, ap, ap₂, subst, _∙_}
 use mathlib.Core.List.{List}
 use Prim.Native.Nat.{ℕ, zero, suc, _+_, _*_, _-_, _/_, _%_, _≤_, _<_}
@@ -6,20 +7,23 @@ use native.Mathlib.Nat.{one-mul, mul-le-mul-right}
 use native.Mathlib.Decide.{decLt, ℕ-discrete}
 use native.Mathlib.Omega.{arith}
 use lib.IntN.{ℤ, pos, negsuc, negℤ, _+ℤ_, _*ℤ_, +ℤ-idl}
-use lib.ListN.{length, getD, take, drop, List·getD-eq-default}
+use lib.ListN.{length, getD, List·getD-eq-default}
 use Rattle.whole.specs.Table.{at}
 use Rattle.whole.specs.Bound.{Within, floorDiv}
 use Rattle.whole.specs.Written.{Written}
 use Rattle.whole.proofs.BoundLaws.{within-le, within-add, within-pos}
-use Rattle.whole.proofs.OverwriteLaws.{part-at, part-size, part-room}
+use Rattle.whole.proofs.OverwriteLaws.{part-at, part-size}
 use Rattle.whole.proofs.TableLaws.{getD-table}
 use Rattle.rules.specs.declared.Shape.{Shape}
-use Rattle.rules.specs.Field.{quadratic, elements, faces, Admitted}
+use Rattle.rules.specs.Field.{quadratic, elements, faces, Admitted, limit}
 use Rattle.rules.specs.Stages.{tendency, tabulated, stage0, stage1, stage2, tentative, Stages, stages}
 use Rattle.rules.proofs.StageBounds.{quadratic-bounded, φ0-within, t0-within, φ1-within, t1-within, φ2-within}
+use Rattle.rules.specs.Sizes.{earlierSumSize, stageSize}
+use Rattle.step_layout.proofs.Laws.{stage-ends}
+use Rattle.step_layout.specs.Sections.{stageLength, stageStart, sumsStart, workUsed}
 use Rattle.step_upwind.specs.Upwind.{asStage}
 use Rattle.step_upwind.proofs.TendencyLaws.{tendency-cong}
-use Rattle.step_stages.specs.Advance.{section, newSum, newValue, storedValue, Ready, gridSums, gridValues}
+use Rattle.step_stages.specs.Advance.{newSum, newValue, storedValue, Ready, gridSums, gridValues, lentStage}
 use Rattle.step_stages.proofs.Laws.{floor-one, flat}
 
 -- ---- the stages, their tendencies and the sums of these, by number
@@ -77,96 +81,88 @@ module _ (g : Shape) (c : ℕ → ℤ) (p : List ℕ) where
 
   -- work after m passes
   pub record Holds (m : ℕ) (w : List ℤ) : Type 0 where
-    pub long : 5 * section g ≤ length w
-    pub stage : (j : ℕ) → j ≤ m → (i : ℕ) → i < section g → at w (j * section g + i) ≡ stageOf s j (i / 9) (i % 9)
-    pub sums : (i : ℕ) → i < section g → at w (4 * section g + i) ≡ sumOf s m (i / 9) (i % 9)
+    pub long : workUsed g ≤ length w
+    pub stage : (j : ℕ) → j ≤ m → (i : ℕ) → i < stageLength g → at w (stageStart g j + i) ≡ stageOf s j (i / 9) (i % 9)
+    pub sums : (i : ℕ) → i < stageLength g → at w (sumsStart g + i) ≡ sumOf s m (i / 9) (i % 9)
 
-  place : (i : ℕ) → i < section g → (i / 9 < elements g) × (i % 9 < 9)
+  place : (i : ℕ) → i < stageLength g → (i / 9 < elements g) × (i % 9 < 9)
   place i h = (omega arith, omega arith)
 
-  pub holds-start : (w w′ : List ℤ) → 5 * section g ≤ length w → Written 0 (4 * section g) (section g) (storedValue p) (λ _. pos 0) w w′ → Holds 0 w′
+  pub holds-start : (w w′ : List ℤ) → workUsed g ≤ length w → Written (stageStart g 0) (sumsStart g) (stageLength g) (storedValue p) (λ _. pos 0) w w′ → Holds 0 w′
   unfolding stages stage0
   holds-start w w′ long h = record {
     long = omega (arith, h .long);
-    stage = λ j l i q. let z : j ≡ 0 = omega arith in let n : 0 * section g + i ≡ 0 + i = omega arith in ap (λ n. at w′ (n * section g + i)) z ∙ ap (at w′) n ∙ h .first i q ∙ ap (λ n. stageOf s n (i / 9) (i % 9)) (sym z);
+    stage = λ j l i q. let z : j ≡ 0 = omega arith in ap (λ n. at w′ (stageStart g n + i)) z ∙ h .first i q ∙ ap (λ n. stageOf s n (i / 9) (i % 9)) (sym z);
     sums = h .second;
   }
 
-  -- the section of stage j, as it is lent
-  pub section-is : (m : ℕ) (w : List ℤ) → Holds m w → (j : ℕ) → j ≤ m → (e k : ℕ) → e < elements g → k < 9 → asStage (take (section g) (drop (j * section g) w)) e k ≡ stageOf s j e k
-  section-is m w h j lj e k le lk = part-at (section g) (j * section g) (section g) w (e * 9 + k) (pos 0) refl (omega arith) ∙ h .stage j lj (e * 9 + k) (omega arith)
+  -- stage j, as it is lent
+  pub lent-is : (m : ℕ) (w : List ℤ) → Holds m w → (j : ℕ) → j ≤ m → (e k : ℕ) → e < elements g → k < 9 → asStage (lentStage g j w) e k ≡ stageOf s j e k
+  lent-is m w h j lj e k le lk = part-at (stageLength g) (stageStart g j) (stageLength g) w (e * 9 + k) (pos 0) refl (omega arith) ∙ h .stage j lj (e * 9 + k) (omega arith)
       ∙ ap₂ (stageOf s j) (flat e k lk .0) (flat e k lk .1)
 
   module _ (m : ℕ) (w : List ℤ) (lm : m < 3) (h : Holds m w) where
-    room : m * section g + section g ≤ length w
-    room = omega (arith, part-room (section g) {s = m} {n = 3} lm, h .long)
+    room : stageStart g m + stageLength g ≤ length w
+    room = omega (arith, stage-ends g {m = m} {k = 3} lm, h .long)
 
-    sums-are : Admitted g → (i : ℕ) → i < section g → gridSums g c m w i ≡ sumOf s (suc m) (i / 9) (i % 9)
+    sums-are : Admitted g → (i : ℕ) → i < stageLength g → gridSums g c m w i ≡ sumOf s (suc m) (i / 9) (i % 9)
     sums-are admits i q =
         let r = place i q in
-        ap₂ (newSum m) (h .sums i q) (tendency-cong g admits c (asStage (take (section g) (drop (m * section g) w))) (stageOf s m) (section-is m w h m (omega arith)) (i / 9) (i % 9) (r .0) (r .1)
+        ap₂ (newSum m) (h .sums i q) (tendency-cong g admits c (asStage (lentStage g m w)) (stageOf s m) (lent-is m w h m (omega arith)) (i / 9) (i % 9) (r .0) (r .1)
         ∙ sym (tendency-is m (i / 9) (i % 9) lm (r .0) (r .1)))
 
-    values-are : Admitted g → (i : ℕ) → i < section g → gridValues g c m w i ≡ stageOf s (suc m) (i / 9) (i % 9)
-    values-are admits i q = ap₂ (newValue m) (ap (at w) (omega arith) ∙ h .stage 0 (omega arith) i q) (sums-are admits i q) ∙ next-is m (i / 9) (i % 9) lm
+    values-are : Admitted g → (i : ℕ) → i < stageLength g → gridValues g c m w i ≡ stageOf s (suc m) (i / 9) (i % 9)
+    values-are admits i q = ap₂ (newValue m) (h .stage 0 (omega arith) i q) (sums-are admits i q) ∙ next-is m (i / 9) (i % 9) lm
 
-    pub holds-next : Admitted g → (w′ : List ℤ) → Written ((m + 1) * section g) (4 * section g) (section g) (gridValues g c m w) (gridSums g c m w) w w′ → Holds (suc m) w′
+    pub holds-next : Admitted g → (w′ : List ℤ) → Written (stageStart g (m + 1)) (sumsStart g) (stageLength g) (gridValues g c m w) (gridSums g c m w) w w′ → Holds (suc m) w′
     holds-next admits w′ v = record {
       long = omega (arith, h .long, v .long);
       stage = λ j l i q. go j i q (ℕ-discrete j (suc m)) l;
       sums = λ i q. v .second i q ∙ sums-are admits i q;
     }
       where
-        go : (j i : ℕ) → i < section g → Dec (j ≡ suc m) → j ≤ suc m → at w′ (j * section g + i) ≡ stageOf s j (i / 9) (i % 9)
-        go j i q (yes e) l = ap (λ n. at w′ (n * section g + i)) (omega arith) ∙ v .first i q ∙ values-are admits i q ∙ ap (λ n. stageOf s n (i / 9) (i % 9)) (sym e)
+        go : (j i : ℕ) → i < stageLength g → Dec (j ≡ suc m) → j ≤ suc m → at w′ (stageStart g j + i) ≡ stageOf s j (i / 9) (i % 9)
+        go j i q (yes e) l = ap (λ n. at w′ (stageStart g n + i)) (omega arith) ∙ v .first i q ∙ values-are admits i q ∙ ap (λ n. stageOf s n (i / 9) (i % 9)) (sym e)
         go j i q (no ne) l =
-            let below : j * section g + section g ≤ (m + 1) * section g = part-room (section g) {s = j} {n = m + 1} (omega (arith, ne)) in
-            let top : (m + 1) * section g ≤ 3 * section g = mul-le-mul-right (section g) (omega arith) in
-            v .kept (j * section g + i) (λ x y. omega arith) (λ x y. omega arith) ∙ h .stage j (omega (arith, ne)) i q
+            let below : stageStart g j + stageLength g ≤ stageStart g (m + 1) = stage-ends g {m = j} {k = m + 1} (omega (arith, ne)) in
+            let top : stageStart g (m + 1) ≤ stageStart g 3 = mul-le-mul-right (stageLength g) (omega arith) in
+            v .kept (stageStart g j + i) (λ x y. omega arith) (λ x y. omega arith) ∙ h .stage j (omega (arith, ne)) i q
 
   -- ---- sizes: every stored value is at most the limit, every wind in its range
-  module _ (admits : Admitted g) (wind-range : (f : ℕ) → f < faces g → Within 1024 (c f)) (small : (i : ℕ) → getD p i 0 ≤ 100000000) where
-    stage-within : (m e k : ℕ) → m < 3 → Within 1700000000 (stageOf s m e k)
-    stage-within zero e k h = within-le (φ0-within quadratic quadratic-bounded g (admits .nx-above) (admits .ny-above) c wind-range p 100000000 small e k) (omega arith)
-    stage-within (suc zero) e k h = within-le (φ1-within quadratic quadratic-bounded g (admits .nx-above) (admits .ny-above) c wind-range p 100000000 small e k) (omega arith)
-    stage-within (suc (suc zero)) e k h = within-le (φ2-within quadratic quadratic-bounded g (admits .nx-above) (admits .ny-above) c wind-range p 100000000 small e k) (omega arith)
+  module _ (admits : Admitted g) (wind-range : (f : ℕ) → f < faces g → Within 1024 (c f)) (small : (i : ℕ) → getD p i 0 ≤ limit) where
+    stage-within : (m e k : ℕ) → m < 3 → Within stageSize (stageOf s m e k)
+    stage-within zero e k h = within-le (φ0-within quadratic quadratic-bounded g (admits .nx-above) (admits .ny-above) c wind-range p limit small e k) (omega arith)
+    stage-within (suc zero) e k h = within-le (φ1-within quadratic quadratic-bounded g (admits .nx-above) (admits .ny-above) c wind-range p limit small e k) (omega arith)
+    stage-within (suc (suc zero)) e k h = within-le (φ2-within quadratic quadratic-bounded g (admits .nx-above) (admits .ny-above) c wind-range p limit small e k) (omega arith)
     stage-within (suc (suc (suc m))) e k h = let f : ⊥ = omega arith in absurd f
 
-    t0-small : (e k : ℕ) → Within 700000000 (s .t0 e k)
-    t0-small e k = within-le (t0-within quadratic quadratic-bounded g (admits .nx-above) (admits .ny-above) c wind-range p 100000000 small e k) (omega arith)
+    t0-small : (e k : ℕ) → Within (7 * limit) (s .t0 e k)
+    t0-small e k = t0-within quadratic quadratic-bounded g (admits .nx-above) (admits .ny-above) c wind-range p limit small e k
 
-    t1-small : (e k : ℕ) → Within 5600000000 (s .t1 e k)
-    t1-small e k = within-le (t1-within quadratic quadratic-bounded g (admits .nx-above) (admits .ny-above) c wind-range p 100000000 small e k) (omega arith)
+    t1-small : (e k : ℕ) → Within (56 * limit) (s .t1 e k)
+    t1-small e k = t1-within quadratic quadratic-bounded g (admits .nx-above) (admits .ny-above) c wind-range p limit small e k
 
-    sum-within : (m e k : ℕ) → m < 3 → Within 6300000000 (sumOf s m e k)
+    sum-within : (m e k : ℕ) → m < 3 → Within earlierSumSize (sumOf s m e k)
     sum-within zero e k h = within-le (within-pos 0) (omega arith)
-    sum-within (suc zero) e k h = subst (Within 6300000000) (sym (sum-1 e k)) (within-le (t0-small e k) (omega arith))
-    sum-within (suc (suc zero)) e k h = subst (Within 6300000000) (sym (sum-2 e k)) (within-le (within-add (t0-small e k) (t1-small e k)) (omega arith))
+    sum-within (suc zero) e k h = subst (Within earlierSumSize) (sym (sum-1 e k)) (within-le (t0-small e k) (omega arith))
+    sum-within (suc (suc zero)) e k h = subst (Within earlierSumSize) (sym (sum-2 e k)) (within-le (within-add (t0-small e k) (t1-small e k)) (omega arith))
     sum-within (suc (suc (suc m))) e k h = let f : ⊥ = omega arith in absurd f
 
     pub ready : (m : ℕ) (w : List ℤ) → m < 3 → Holds m w → Ready g m w
     ready m w lm h = record {
       long = h .long;
-      stage = record { all = λ i. go i (decLt i (section g)) };
-      values = λ i q. subst (Within 100000000) (sym (ap (at w) (omega arith) ∙ h .stage 0 (omega arith) i q)) (φ0-within quadratic quadratic-bounded g (admits .nx-above) (admits .ny-above) c wind-range p 100000000 small (i / 9) (i % 9));
-      small = λ i q. subst (Within 6300000000) (sym (h .sums i q)) (sum-within m (i / 9) (i % 9) lm);
+      stage = record { all = λ i. go i (decLt i (stageLength g)) };
+      values = λ i q. subst (Within limit) (sym (h .stage 0 (omega arith) i q)) (φ0-within quadratic quadratic-bounded g (admits .nx-above) (admits .ny-above) c wind-range p limit small (i / 9) (i % 9));
+      small = λ i q. subst (Within earlierSumSize) (sym (h .sums i q)) (sum-within m (i / 9) (i % 9) lm);
     }
       where
         lent : List ℤ
-        lent = take (section g) (drop (m * section g) w)
+        lent = lentStage g m w
 
-        go : (i : ℕ) → Dec (i < section g) → Within 1700000000 (at lent i)
-        go i (yes q) = subst (Within 1700000000) (sym (part-at (section g) (m * section g) (section g) w i (pos 0) refl q ∙ h .stage m (omega arith) i q)) (stage-within m (i / 9) (i % 9) lm)
-        go i (no q) = subst (Within 1700000000) (sym (List·getD-eq-default lent (pos 0) (omega (arith, part-size (section g) (m * section g) (section g) w refl (room m w lm h))))) (within-le (within-pos 0) (omega arith))
+        go : (i : ℕ) → Dec (i < stageLength g) → Within stageSize (at lent i)
+        go i (yes q) = subst (Within stageSize) (sym (part-at (stageLength g) (stageStart g m) (stageLength g) w i (pos 0) refl q ∙ h .stage m (omega arith) i q)) (stage-within m (i / 9) (i % 9) lm)
+        go i (no q) = subst (Within stageSize) (sym (List·getD-eq-default lent (pos 0) (omega (arith, part-size (stageLength g) (stageStart g m) (stageLength g) w refl (room m w lm h))))) (within-le (within-pos 0) (omega arith))
 
-    -- the first three sections, whatever came after them
-    pub stages-small : (m : ℕ) (w : List ℤ) → 2 ≤ m → Holds m w → (i : ℕ) → i < 3 * section g → Within 1700000000 (at w i)
-    stages-small m w l h i q = go (decLt i (section g)) (decLt i (2 * section g))
-      where
-        at-stage : (j r : ℕ) → j < 3 → r < section g → i ≡ j * section g + r → Within 1700000000 (at w i)
-        at-stage j r lj lr e = subst (Within 1700000000) (sym (ap (at w) e ∙ h .stage j (omega arith) r lr)) (stage-within j (r / 9) (r % 9) lj)
-
-        go : Dec (i < section g) → Dec (i < 2 * section g) → Within 1700000000 (at w i)
-        go (yes a) b = at-stage 0 i (omega arith) a (omega arith)
-        go (no a) (yes b) = at-stage 1 (i - section g) (omega arith) (omega arith) (omega arith)
-        go (no a) (no b) = at-stage 2 (i - 2 * section g) (omega arith) (omega arith) (omega arith)
+    -- the first three stages, whatever came after them
+    pub stages-small : (m : ℕ) (w : List ℤ) → 2 ≤ m → Holds m w → (j i : ℕ) → j < 3 → i < stageLength g → Within stageSize (at w (stageStart g j + i))
+    stages-small m w l h j i lj q = subst (Within stageSize) (sym (h .stage j (omega arith) i q)) (stage-within j (i / 9) (i % 9) lj)

@@ -7,13 +7,11 @@ use lib.ListN.{length, getD, take, drop}
 use Rattle.whole.specs.Table.{at}
 use Rattle.whole.specs.Bound.{Within, AllWithin, floorDiv}
 use Rattle.rules.specs.declared.Shape.{Shape}
-use Rattle.rules.specs.Field.{quadratic, elements, cell}
+use Rattle.rules.specs.Field.{quadratic, cell, limit}
+use Rattle.rules.specs.Sizes.{stageSize, earlierSumSize}
 use Rattle.rules.specs.Stages.{tendency}
+use Rattle.step_layout.specs.Sections.{stageLength, stageStart, sumsStart, workUsed}
 use Rattle.step_upwind.specs.Upwind.{asStage}
-
--- the numbers of a section of work
-abbrev pub section : Shape → ℕ
-section g = elements g * 9
 
 -- "t0", "t0 + t1", "t0 + t1 + 4·t2"; "floor(.. / 4)", "floor(.. / 6)"
 abbrev pub factor : ℕ → ℕ
@@ -35,8 +33,8 @@ pub record Element (w : List ℤ) (from to sums m : ℕ) : Type 0 where
   pub before : from + 9 ≤ to
   pub between : to + 9 ≤ sums
   pub room : sums + 9 ≤ length w
-  pub values : (k : ℕ) → k < 9 → Within 100000000 (at w (from + k))
-  pub small : (k : ℕ) → k < 9 → Within 6300000000 (at w (sums + k))
+  pub values : (k : ℕ) → k < 9 → Within limit (at w (from + k))
+  pub small : (k : ℕ) → k < 9 → Within earlierSumSize (at w (sums + k))
 
 abbrev pub elementSums : ℕ → ℕ → List ℤ → List ℤ → ℕ → ℤ
 elementSums m sums t w k = newSum m (at w (sums + k)) (at t k)
@@ -44,19 +42,23 @@ elementSums m sums t w k = newSum m (at w (sums + k)) (at t k)
 abbrev pub elementValues : ℕ → ℕ → ℕ → List ℤ → List ℤ → ℕ → ℤ
 elementValues m from sums t w k = newValue m (at w (from + k)) (elementSums m sums t w k)
 
--- ---- all elements: number i of a section
+-- ---- all elements: number i of a stage
 abbrev pub storedValue : List ℕ → ℕ → ℤ
 storedValue p i = pos (cell quadratic p (i / 9) (i % 9))
 
+-- stage m, as it is lent
+abbrev pub lentStage : Shape → ℕ → List ℤ → List ℤ
+lentStage g m w = take (stageLength g) (drop (stageStart g m) w)
+
 -- work before stage m + 1 is made
 pub record Ready (g : Shape) (m : ℕ) (w : List ℤ) : Type 0 where
-  pub long : 5 * section g ≤ length w
-  pub stage : AllWithin 1700000000 (take (section g) (drop (m * section g) w))
-  pub values : (i : ℕ) → i < section g → Within 100000000 (at w i)
-  pub small : (i : ℕ) → i < section g → Within 6300000000 (at w (4 * section g + i))
+  pub long : workUsed g ≤ length w
+  pub stage : AllWithin stageSize (lentStage g m w)
+  pub values : (i : ℕ) → i < stageLength g → Within limit (at w (stageStart g 0 + i))
+  pub small : (i : ℕ) → i < stageLength g → Within earlierSumSize (at w (sumsStart g + i))
 
 abbrev pub gridSums : Shape → (ℕ → ℤ) → ℕ → List ℤ → ℕ → ℤ
-gridSums g c m w i = newSum m (at w (4 * section g + i)) (tendency quadratic g c (asStage (take (section g) (drop (m * section g) w))) (i / 9) (i % 9))
+gridSums g c m w i = newSum m (at w (sumsStart g + i)) (tendency quadratic g c (asStage (lentStage g m w)) (i / 9) (i % 9))
 
 abbrev pub gridValues : Shape → (ℕ → ℤ) → ℕ → List ℤ → ℕ → ℤ
-gridValues g c m w i = newValue m (at w i) (gridSums g c m w i)
+gridValues g c m w i = newValue m (at w (stageStart g 0 + i)) (gridSums g c m w i)

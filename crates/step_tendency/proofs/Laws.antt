@@ -1,4 +1,5 @@
--- The code's tables, and the sizes of the sums along a line of nodes.
+-- The code's tables are the rules' numbers, the sums along a line of nodes are small, and X, Y and the tendency made of them are the
+-- rules': tables by a test at each index, sizes term by term, the rest by congruence.
 use mathlib.Core.Path.{_≡_, refl, sym, ap, ap₂, _∙_}
 use mathlib.Core.Logic.{_≢_}
 use mathlib.Core.List.{List, [], _∷_}
@@ -19,7 +20,9 @@ use Rattle.whole.proofs.Sizes.{peak-at}
 use Rattle.rules.specs.Field.{quadratic}
 use Rattle.rules.specs.Stages.{placeWind, advection}
 use Rattle.rules.proofs.StageBounds.{quadratic-bounded, placeWind-within, lineBound, advection-within}
-use Rattle.rules.proofs.QuadraticLaws.{lineWeights, line-weight-is}
+use Rattle.rules.proofs.QuadraticLaws.{line-weight-le}
+use Rattle.rules.specs.Sizes.{stageSize}
+use Rattle.step_tendency.specs.Sizes.{placeWindSize, lineSumSize, advectionSize}
 use Rattle.step_tendency.specs.Line.{weighedWind, alongLine, withEnds, lineAt, lineNodes, localTendency}
 
 -- ---- the code's tables
@@ -44,16 +47,16 @@ unfolding quadratic all
 east-is q h = List·getD-map pos (0 ∷ 1 ∷ 2 ∷ []) q 0
     ∙ ap pos (eqb→eq (getD (0 ∷ 1 ∷ 2 ∷ []) q 0) (2 - quadratic .westShare q) (all-at 3 (λ q. eqb (getD (0 ∷ 1 ∷ 2 ∷ []) q 0) (2 - quadratic .westShare q)) tt q h))
 
-pub wind-is : (cw ce : ℤ) (q : ℕ) → q < 3 → getD lineWeights q (pos 0) *ℤ (getD westShares q (pos 0) *ℤ cw +ℤ getD eastShares q (pos 0) *ℤ ce) ≡ weighedWind cw ce q
+pub wind-is : (cw ce : ℤ) (q : ℕ) → q < 3 → pos (quadratic .lineWeight q) *ℤ (getD westShares q (pos 0) *ℤ cw +ℤ getD eastShares q (pos 0) *ℤ ce) ≡ weighedWind cw ce q
 unfolding placeWind
-wind-is cw ce q h = λ i. line-weight-is q i *ℤ (west-is q i *ℤ cw +ℤ east-is q h i *ℤ ce)
+wind-is cw ce q h = λ i. pos (quadratic .lineWeight q) *ℤ (west-is q i *ℤ cw +ℤ east-is q h i *ℤ ce)
 
 -- ---- sizes
-pub weighedWind-within : (cw ce : ℤ) → Within 1024 cw → Within 1024 ce → AllWithin 8192 (table 3 (weighedWind cw ce))
-unfolding quadratic all
+pub weighedWind-within : (cw ce : ℤ) → Within 1024 cw → Within 1024 ce → AllWithin placeWindSize (table 3 (weighedWind cw ce))
+unfolding quadratic
 weighedWind-within cw ce h k = record {
-  all = table-all (Within 8192) 3 (weighedWind cw ce) (pos 0) (within-le (within-pos 0) (omega arith))
-      (λ q l. within-le (within-mul (within-pos (quadratic .lineWeight q)) (placeWind-within quadratic quadratic-bounded 0 cw ce q l h k)) (omega (arith, leb→le (quadratic .lineWeight q) 4 (all-at 3 (λ q. leb (quadratic .lineWeight q) 4) tt q l))));
+  all = table-all (Within placeWindSize) 3 (weighedWind cw ce) (pos 0) (within-le (within-pos 0) (omega arith))
+      (λ q l. within-le (within-mul (within-pos (quadratic .lineWeight q)) (placeWind-within quadratic quadratic-bounded 0 cw ce q l h k)) (omega (arith, line-weight-le q l)));
 }
 
 -- one term of the sum along a line
@@ -64,13 +67,13 @@ pub terms-are : (c v : List ℤ) (start stride place : ℕ) → sumℤ 3 (term c
 unfolding quadratic
 terms-are c v start stride place = refl
 
-pub terms-within : (c v : List ℤ) (start stride place n : ℕ) → AllWithin 8192 c → AllWithin 1700000000 v → n ≤ 3 → Within 752025600000000 (sumℤ n (term c v start stride place))
+pub terms-within : (c v : List ℤ) (start stride place n : ℕ) → AllWithin placeWindSize c → AllWithin stageSize v → n ≤ 3 → Within lineSumSize (sumℤ n (term c v start stride place))
 unfolding sum
 terms-within c v start stride place n hc hv h = within-le (within-sum n (term c v start stride place) bound
     (λ q _. within-mul (within-mul (hc .all q) (hv .all (start + stride * q))) (record { within = peak-at derivatives (3 * q + place) }))) (sum-mono bound n 3 h)
   where
     bound : ℕ → ℕ
-    bound q = 250675200000000
+    bound q = (placeWindSize * stageSize * 18)
 
 -- ---- the ends of a line
 module _ (sum first last : ℤ) where
@@ -106,22 +109,22 @@ rows-are v cw ce u side step stride =
     ∙ table-cong 9 _ _ (λ i _. line-is v (step * (i / 3)) stride cw ce (at u (side + i / 3)) (at u (side + 3 + i / 3)) (i % 3))
 
 -- X (or Y) is not too large: 114688 times the largest value at most
-pub nodes-within : (v : List ℤ) (cw ce : ℤ) (u : List ℤ) (side step stride : ℕ) → AllWithin 1700000000 v → Within 1024 cw → Within 1024 ce → AllWithin 1700000000 u
-    → AllWithin 194969600000000 (table 9 (lineNodes v cw ce u side step stride))
+pub nodes-within : (v : List ℤ) (cw ce : ℤ) (u : List ℤ) (side step stride : ℕ) → AllWithin stageSize v → Within 1024 cw → Within 1024 ce → AllWithin stageSize u
+    → AllWithin advectionSize (table 9 (lineNodes v cw ce u side step stride))
 unfolding lineNodes quadratic all lineBound sum
-nodes-within v cw ce u side step stride hv hw he hu = record { all = table-all (Within 194969600000000) 9 (lineNodes v cw ce u side step stride) (pos 0) (within-le (within-pos 0) (omega arith)) each }
+nodes-within v cw ce u side step stride hv hw he hu = record { all = table-all (Within advectionSize) 9 (lineNodes v cw ce u side step stride) (pos 0) (within-le (within-pos 0) (omega arith)) each }
   where
-    each : (k : ℕ) → k < 9 → Within 194969600000000 (lineNodes v cw ce u side step stride k)
+    each : (k : ℕ) → k < 9 → Within advectionSize (lineNodes v cw ce u side step stride k)
     each k h =
         let a : k % 3 < 3 = mod-lt k (omega arith) in
-        within-le (advection-within quadratic quadratic-bounded 1700000000 (λ q. at v (step * (k / 3) + stride * q)) cw ce (at u (side + k / 3)) (at u (side + 3 + k / 3)) (k % 3)
+        within-le (advection-within quadratic quadratic-bounded stageSize (λ q. at v (step * (k / 3) + stride * q)) cw ce (at u (side + k / 3)) (at u (side + 3 + k / 3)) (k % 3)
         (λ q _. hv .all _) hw he (hu .all _) (hu .all _))
         (omega (arith, leb→le (lineBound quadratic (k % 3)) 114688 (all-at 3 (λ a. leb (lineBound quadratic a) 114688) tt (k % 3) a)))
 
 -- ---- the tendency at a node, from X and Y at every node
 module _ (x y : List ℤ) where
   abbrev pub combined : ℕ → ℤ
-  combined k = floorDiv (getD lineWeights (k / 3) (pos 0) *ℤ at x k +ℤ getD lineWeights (k % 3) (pos 0) *ℤ at y (3 * (k % 3) + k / 3)) (2 ^ getD shifts k 0)
+  combined k = floorDiv (pos (quadratic .lineWeight (k / 3)) *ℤ at x k +ℤ pos (quadratic .lineWeight (k % 3)) *ℤ at y (3 * (k % 3) + k / 3)) (2 ^ getD shifts k 0)
 
 -- 8192 times a node's weight is a power of 2
 pub shift-is : (k : ℕ) → k < 9 → 2 ^ getD shifts k 0 ≡ 8192 * (quadratic .lineWeight (k % 3) * quadratic .lineWeight (k / 3))
@@ -148,7 +151,7 @@ combined-is v c u k h =
     ∙ (λ i. advection quadratic (λ q. at v (ex q i)) (at c 0) (at c 1) (at u (zero-add (k / 3) i)) (at u (3 + k / 3)) (k % 3)) in
     let y = getD-table 9 (lineNodes v (at c 2) (at c 3) u 6 1 3) m (pos 0) (t .0)
     ∙ (λ i. advection quadratic (λ q. at v (ey q i)) (at c 2) (at c 3) (at u (6 + t .1 i)) (at u (9 + t .1 i)) (t .2 i)) in
-    λ i. floorDiv (line-weight-is (k / 3) i *ℤ x i +ℤ line-weight-is (k % 3) i *ℤ y i) (shift-is k h i)
+    λ i. floorDiv (pos (quadratic .lineWeight (k / 3)) *ℤ x i +ℤ pos (quadratic .lineWeight (k % 3)) *ℤ y i) (shift-is k h i)
 
 pub all-combined : (v c u : List ℤ)
     → table 9 (combined (table 9 (lineNodes v (at c 0) (at c 1) u 0 3 1)) (table 9 (lineNodes v (at c 2) (at c 3) u 6 1 3))) ≡ table 9 (localTendency (at v) (at c) (at u))

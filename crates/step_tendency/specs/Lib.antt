@@ -1,2 +1,3 @@
--- What the tendency's leaves answer.
+-- What the tendency's leaves answer, and how large their numbers are.
+pub mod Sizes
 pub mod Line

@@ -1,4 +1,5 @@
--- The tendency of an element of the grid by its own values, the winds of its four faces and twelve upwind values.
+-- The tendency of an element of the grid by its own values, the winds of its four faces and twelve upwind values: by congruence of what it
+-- reads, and by where each upwind value stands in a stage that is a list.
 use mathlib.Core.Path.{_≡_, sym, ap, ap₂, _∙_}
 use mathlib.Core.Bool.{Bool, true, false, cond, not}
 use mathlib.Core.List.{List, [], _∷_}
@@ -21,7 +22,10 @@ use Rattle.rules.specs.Grid.{west, east, south, north, looksEast, behind, ahead
 use Rattle.rules.specs.Stages.{node, upwind, placeWind, advection, alongX, alongY, tendency}
 use Rattle.rules.specs.Calls.{windAt}
 use Rattle.rules.proofs.GridLaws.{west-lt, south-lt, east-west, north-south, looks-east, looks-north, behind-lt, ahead-lt, behind-east, ahead-east, behind-north, ahead-north}
+use Rattle.rules.specs.Sizes.{stageSize}
+use Rattle.step_layout.specs.Sections.{stageLength}
 use Rattle.step_grid.specs.Place.{Placed}
+use Rattle.step_grid.proofs.PlaceLaws.{west-in, south-in}
 use Rattle.step_tendency.specs.Line.{localTendency}
 use Rattle.step_upwind.specs.Upwind.{asStage, WindsInRange, sideWinds, lasts, strides, upwindStart, sideStart, upwindPlace, Reached}
 use Rattle.step_upwind.proofs.Laws.{four, behind-inside, ahead-inside}
@@ -140,10 +144,10 @@ module _ (g : Shape) (c : ℕ → ℤ) (l : List ℤ) (e : ℕ) (h : Placed g e)
       y = h .admits .ny-above
 
       wl : west g e < elements g
-      wl = west-lt g x y e (h .inside)
+      wl = west-in h
 
       sl : south g e < elements g
-      sl = south-lt g x y e (h .inside)
+      sl = south-in h
 
   pub value-stands : (m : ℕ) → m < 12 → sideValue g c (asStage l) e m ≡ at l (upwindPlace starts m)
   value-stands m k = side-stands (m / 3) (omega arith) (m % 3) ∙ ap (λ n. at l (n + getD strides (m / 3) 0 * (m % 3))) (sym (getD-table 4 (sideStart g (sideWinds g c e) e) (m / 3) 0 (omega arith)))
@@ -155,15 +159,15 @@ module _ (g : Shape) (c : ℕ → ℤ) (l : List ℤ) (e : ℕ) (h : Placed g e)
       (λ i li. sym (getD-table 9 (λ k. at l (e * 9 + k)) i (pos 0) li)) (λ m lm. value-stands m lm ∙ sym (getD-table 12 (λ m. at l (upwindPlace starts m)) m (pos 0) lm))))
 
   -- all upwind values are within the stage
-  start-room : (s : ℕ) → s < 4 → sideStart g (sideWinds g c e) e s + getD strides s 0 * 2 < elements g * 9
+  start-room : (s : ℕ) → s < 4 → sideStart g (sideWinds g c e) e s + getD strides s 0 * 2 < stageLength g
   unfolding upwindStart
-  start-room = λ s k. cond-ind (nonNeg (at (sideWinds g c e) s)) _ _ (λ n. n + getD strides s 0 * 2 < elements g * 9)
+  start-room = λ s k. cond-ind (nonNeg (at (sideWinds g c e) s)) _ _ (λ n. n + getD strides s 0 * 2 < stageLength g)
       (λ _. omega (arith, behind-inside g e h s k, tail s k)) (λ _. omega (arith, ahead-inside g e h s k, tail s k))
     where
       tail : (s : ℕ) → s < 4 → getD lasts s 0 + getD strides s 0 * 2 ≤ 8
       tail = four (λ s. getD lasts s 0 + getD strides s 0 * 2 ≤ 8) (omega arith) (omega arith) (omega arith) (omega arith)
 
-  pub reached : length l ≡ elements g * 9 → Reached starts l
+  pub reached : length l ≡ stageLength g → Reached starts l
   reached long = record {
     reach = λ m k. omega (
       arith,
@@ -185,12 +189,12 @@ winds-small g wind e h k = record { all = each }
     face f l = (k .small f (omega arith), k .small (northFace g f) (omega arith))
 
     each : (i : ℕ) → Within 1024 (at (sideWinds g (windAt wind) e) i)
-    each zero = face (west g e) (west-lt g (h .admits .nx-above) (h .admits .ny-above) e (h .inside)) .0
+    each zero = face (west g e) (west-in h) .0
     each (suc zero) = face e (h .inside) .0
-    each (suc (suc zero)) = face (south g e) (south-lt g (h .admits .nx-above) (h .admits .ny-above) e (h .inside)) .1
+    each (suc (suc zero)) = face (south g e) (south-in h) .1
     each (suc (suc (suc zero))) = face e (h .inside) .1
     each (suc (suc (suc (suc i)))) = within-le (within-pos 0) (omega arith)
 
 -- numbers of a stage, in a table
-pub picked-small : (n : ℕ) (l : List ℤ) (p : ℕ → ℕ) → AllWithin 1700000000 l → AllWithin 1700000000 (table n (λ i. at l (p i)))
-picked-small n l p h = record { all = table-all (Within 1700000000) n (λ i. at l (p i)) (pos 0) (within-le (within-pos 0) (omega arith)) (λ i _. h .all (p i)) }
+pub picked-small : (n : ℕ) (l : List ℤ) (p : ℕ → ℕ) → AllWithin stageSize l → AllWithin stageSize (table n (λ i. at l (p i)))
+picked-small n l p h = record { all = table-all (Within stageSize) n (λ i. at l (p i)) (pos 0) (within-le (within-pos 0) (omega arith)) (λ i _. h .all (p i)) }

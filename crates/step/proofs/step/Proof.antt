@@ -17,7 +17,7 @@ use Rattle.rules.proofs.PartLaws.{part-length, part-is-elements}
 use Rattle.rules.proofs.StepLaws.{length-after}
 use Rattle.rules.specs.Stages.{stages}
 use Rattle.field.proofs.CheckLaws.{call-refused, call-accepted}
-use Rattle.field_layout.proofs.PlaceLaws.{part-is, field-is, field-le, tracer-room}
+use Rattle.field_layout.proofs.PlaceLaws.{field-is, field-le, tracer-room}
 use Rattle.step.proofs.CheckLaws.{Stepping, stepping, plain-refused, report-refused, report-accepted, work-refused, work-accepted, part-back}
 use Rattle.step.proofs.step.Statement.{statement}
 use Rattle.step.proofs.step.Tie as tie
@@ -74,7 +74,7 @@ step-requires c κs =
     let t = c .before .before .before .before in
     let a = c .before .before .before .before .before .before .before .before .before .before .before .args in
     let h = facts (c .before .before .before .before .before .before) in
-    (h .shape, (ap length (lent-is t) ∙ part-length quadratic (a .shape) (a .tracer) (a .field .now) (h .tracer) (h .room) ∙ part-is (a .shape), (omega (arith, ap (total quadratic (a .shape)) (lent-is t), h .within-limit), (h .wind-range, (h .reports, omega (arith, lent-long (c .before .before .before), c .before .before .before .work-needed .ensures))))))
+    (h .shape, (ap length (lent-is t) ∙ part-length quadratic (a .shape) (a .tracer) (a .field .now) (h .tracer) (h .room) ∙ part-is-elements quadratic (a .shape), (omega (arith, ap (total quadratic (a .shape)) (lent-is t), h .within-limit), (h .wind-range, (h .reports, omega (arith, lent-long (c .before .before .before), c .before .before .before .work-needed .ensures))))))
 
 returns : tie.Need-returns
 returns c =

@@ -1,3 +1,4 @@
+-- The report: the invariant is both of its halves, written as far as the turn's element; `Amounts` says that a limited flux fits 32 bits.
 use mathlib.Core.Path.{refl, ap, _∙_}
 use Prim.Native.Nat.{_≤_, _-_}
 use borrow.Author.Needs.{needs}
@@ -7,10 +8,11 @@ use Rattle.whole.specs.Bound.{Are}
 use Rattle.whole.specs.Written.{Written}
 use Rattle.whole.proofs.Sizes.{sizes, exacts, fits, exact}
 use Rattle.whole.proofs.WrittenLaws.{written-none, written-store, written-moved}
-use Rattle.rules.specs.Field.{elements, northFace}
-use Rattle.rules.proofs.GridLaws.{east-lt, north-lt}
+use Rattle.rules.specs.Field.{elements, northFace, limit}
+use Rattle.rules.specs.Sizes.{mostElements}
 use Rattle.rules.proofs.ShapeLaws.{elements-le}
 use Rattle.step_grid.specs.Place.{Placed}
+use Rattle.step_grid.proofs.PlaceLaws.{east-in, north-in}
 use Rattle.step_correction.specs.Amounts.{limitedFace, limitedEast, limitedNorth}
 use Rattle.step_correction.proofs.limit.Statement.{statement}
 use Rattle.step_correction.proofs.limit.Tie as tie
@@ -22,26 +24,23 @@ abbrev μ-loop : tie.MeasureT-loop
 μ-loop work report₀ shape n e₀ report e = n - e
 
 mul-n : tie.Need-mul-n Inv-loop μ-loop
-mul-n c = record { fits = omega (arith, elements-le (c .before .args .shape) (c .before .pre .0)) }
+mul-n c = record { fits = omega (arith, elements-le (c .before .args .shape) (c .before .pre .0 .admits)) }
 
 loop-holds : tie.Need-loop-holds Inv-loop μ-loop
 loop-holds c = (omega arith, written-none _ _ _ _ _)
 
 placed : (c : tie.In-loop Inv-loop μ-loop) → Placed (c .before .before .before .args .shape) (c .before .loop .e)
-placed c = record { admits = c .before .before .before .pre .0; inside = omega arith }
+placed c = record { admits = c .before .before .before .pre .0 .admits; inside = omega arith }
 
-small : (c : tie.In-loop Inv-loop μ-loop) → elements (c .before .before .before .args .shape) ≤ 4096
-small c = elements-le (c .before .before .before .args .shape) (c .before .before .before .pre .0)
-
-east-requires : tie.Need-east-requires Inv-loop μ-loop
-east-requires c κs = placed c
+small : (c : tie.In-loop Inv-loop μ-loop) → elements (c .before .before .before .args .shape) ≤ mostElements
+small c = elements-le (c .before .before .before .args .shape) (c .before .before .before .pre .0 .admits)
 
 limited-face-requires : tie.Need-limited-face-requires Inv-loop μ-loop
 limited-face-requires c κs =
     let i = c .before in
     let b = i .before .before .before in
     let p = placed i in
-    (b .pre .0, (b .pre .1 .0, (omega (arith, p .inside), (p .inside, omega (arith, c .east .ensures, east-lt (b .args .shape) (p .admits .nx-above) (p .admits .ny-above) (i .before .loop .e) (p .inside))))))
+    (b .pre .0, (omega (arith, p .inside), (p .inside, omega (arith, c .east .ensures, east-in p))))
 
 add-limited-face : tie.Need-add-limited-face Inv-loop μ-loop
 add-limited-face c = let i = c .before .before in record { fits = omega (arith, placed i .inside, small i) }
@@ -54,25 +53,22 @@ limited-face-requires-2 c κs =
     let i = c .before .before .before in
     let b = i .before .before .before in
     let p = placed i in
-    (b .pre .0, (b .pre .1 .0, (omega (arith, p .inside), (p .inside, omega (arith, c .north .ensures, north-lt (b .args .shape) (p .admits .nx-above) (p .admits .ny-above) (i .before .loop .e) (p .inside))))))
+    (b .pre .0, (omega (arith, p .inside), (p .inside, omega (arith, c .north .ensures, north-in p))))
 
 -- the limited fluxes of a turn, which fit the report
-east-made : (c : tie.After-limited-face Inv-loop μ-loop) → Are 100000000 (c .limited-face .result) (limitedEast (c .before .before .before .before .before .args .shape) (c .before .before .before .before .before .args .work .now) (c .before .before .before .loop .e))
+east-made : (c : tie.After-limited-face Inv-loop μ-loop) → Are limit (c .limited-face .result) (limitedEast (c .before .before .before .before .before .args .shape) (c .before .before .before .before .before .args .work .now) (c .before .before .before .loop .e))
 east-made c =
     let i = c .before .before in
     let b = i .before .before .before in
     let e = i .before .loop .e in
-    record { same = c .limited-face .ensures .same ∙ ap (limitedFace (b .args .shape) (b .args .work .now) e e) (c .before .east .ensures); bound = b .pre .1 .0 .easts e (placed i .inside) }
+    record { same = c .limited-face .ensures .same ∙ ap (limitedFace (b .args .shape) (b .args .work .now) e e) (c .before .east .ensures); bound = b .pre .0 .easts e (placed i .inside) }
 
-north-made : (c : tie.After-limited-face2 Inv-loop μ-loop) → Are 100000000 (c .limited-face2 .result) (limitedNorth (c .before .before .before .before .before .before .before .args .shape) (c .before .before .before .before .before .before .before .args .work .now) (c .before .before .before .before .before .loop .e))
+north-made : (c : tie.After-limited-face2 Inv-loop μ-loop) → Are limit (c .limited-face2 .result) (limitedNorth (c .before .before .before .before .before .before .before .args .shape) (c .before .before .before .before .before .before .before .args .work .now) (c .before .before .before .before .before .loop .e))
 north-made c =
     let i = c .before .before .before .before in
     let b = i .before .before .before in
     let e = i .before .loop .e in
-    record { same = c .limited-face2 .ensures .same ∙ ap (limitedFace (b .args .shape) (b .args .work .now) (northFace (b .args .shape) e) e) (c .before .north .ensures); bound = b .pre .1 .0 .norths e (placed i .inside) }
-
-cast-report : tie.Need-cast-report Inv-loop μ-loop
-cast-report c = let h = north-made c in fits (search sizes depth 20) tt
+    record { same = c .limited-face2 .ensures .same ∙ ap (limitedFace (b .args .shape) (b .args .work .now) (northFace (b .args .shape) e) e) (c .before .north .ensures); bound = b .pre .0 .norths e (placed i .inside) }
 
 add-report : tie.Need-add-report Inv-loop μ-loop
 add-report c = let i = c .before .before .before .before in record { fits = omega (arith, placed i .inside, small i) }
@@ -81,16 +77,13 @@ mul-report : tie.Need-mul-report Inv-loop μ-loop
 mul-report c = let i = c .before .before .before .before in record { fits = omega (arith, placed i .inside, small i) }
 
 slice-set-from-report : tie.Need-slice-set-from-report Inv-loop μ-loop
-slice-set-from-report c = let i = c .before .before .before .before in omega (arith, placed i .inside, i .before .loop .inv .1 .long, i .before .before .before .pre .1 .1)
-
-cast-report-2 : tie.Need-cast-report-2 Inv-loop μ-loop
-cast-report-2 c = let h = east-made (c .before .before) in fits (search sizes depth 20) tt
+slice-set-from-report c = let i = c .before .before .before .before in omega (arith, placed i .inside, i .before .loop .inv .1 .long, i .before .before .before .pre .1)
 
 mul-t10 : tie.Need-mul-t10 Inv-loop μ-loop
 mul-t10 c = let i = c .before .before .before .before in record { fits = omega (arith, placed i .inside, small i) }
 
 slice-set-from-report-2 : tie.Need-slice-set-from-report-2 Inv-loop μ-loop
-slice-set-from-report-2 c = let i = c .before .before .before .before in rw length-set (omega (arith, placed i .inside, i .before .loop .inv .1 .long, i .before .before .before .pre .1 .1))
+slice-set-from-report-2 c = let i = c .before .before .before .before in rw length-set (omega (arith, placed i .inside, i .before .loop .inv .1 .long, i .before .before .before .pre .1))
 
 loop-again : tie.Need-loop-again Inv-loop μ-loop
 loop-again c =
@@ -100,7 +93,7 @@ loop-again c =
     let w = b .args .work .now in
     let x = east-made (c .before .before) in
     let y = north-made c in
-    (omega arith, written-store (limitedEast g w) (limitedNorth g w) _ _ _ _ (omega arith) (omega arith) (omega (arith, placed i .inside)) (omega (arith, placed i .inside, b .pre .1 .1)) (i .before .loop .inv .1) (exact (search exacts depth 20) tt) (exact (search exacts depth 20) tt))
+    (omega arith, written-store (limitedEast g w) (limitedNorth g w) _ _ _ _ (omega arith) (omega arith) (omega (arith, placed i .inside)) (omega (arith, placed i .inside, b .pre .1)) (i .before .loop .inv .1) (exact (search exacts depth 20) tt) (exact (search exacts depth 20) tt))
 
 same-length : tie.Need-same-length Inv-loop μ-loop
 same-length c = c .before .loop .inv .1 .long
@@ -109,4 +102,8 @@ returns : tie.Need-returns Inv-loop μ-loop
 returns c = written-moved _ _ _ refl refl (omega arith) (c .before .loop .inv .1)
 
 pub limit-spec : {M : Type 1} → statement M
-limit-spec = tie.close (tie.spec Inv-loop μ-loop mul-n loop-holds east-requires limited-face-requires add-limited-face north-requires limited-face-requires-2 cast-report add-report mul-report slice-set-from-report cast-report-2 mul-t10 slice-set-from-report-2 (λ c. search needs) (λ c. search needs) loop-again same-length returns)
+limit-spec = tie.close (tie.spec
+    Inv-loop μ-loop mul-n loop-holds (λ c κs. placed c) limited-face-requires add-limited-face north-requires limited-face-requires-2
+    (λ c. let h = north-made c in fits (search sizes depth 20) tt) add-report mul-report slice-set-from-report
+    (λ c. let h = east-made (c .before .before) in fits (search sizes depth 20) tt) mul-t10 slice-set-from-report-2 (λ c. search needs)
+    (λ c. search needs) loop-again same-length returns)

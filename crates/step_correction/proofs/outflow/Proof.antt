@@ -1,5 +1,8 @@
+-- An element's outflow: four fluxes are read at places that the element, its west and its south neighbour own, and the machine's sum of
+-- their parts is the definition's (`added`).
 use mathlib.Core.Path.{_≡_, ap, _∙_}
-use Prim.Native.Nat.{_≤_, _<_, _+_}
+use Prim.Native.Nat.{_+_}
+use borrow.Author.Needs.{needs}
 use native.Mathlib.Omega.{arith}
 use lib.IntN.{pos}
 use lib.ListN.{length}
@@ -7,9 +10,9 @@ use mir.Syntax.{w64}
 use Rattle.whole.specs.Table.{at}
 use Rattle.whole.specs.Parts.{positive, negative}
 use Rattle.whole.proofs.Sizes.{sizes, fits, within, are-eq, back-is}
-use Rattle.rules.specs.Field.{elements}
-use Rattle.rules.proofs.GridLaws.{west-lt, south-lt}
+use Rattle.rules.specs.Field.{elements, faces}
 use Rattle.rules.proofs.ShapeLaws.{elements-le}
+use Rattle.step_grid.proofs.PlaceLaws.{FaceOwners, face-owners}
 use Rattle.step_correction.proofs.Laws.{added}
 use Rattle.step_correction.proofs.outflow.Statement.{statement}
 use Rattle.step_correction.proofs.outflow.Tie as tie
@@ -17,44 +20,13 @@ use Rattle.step_correction.proofs.outflow.Tie as tie
 mul-n : tie.Need-mul-n
 mul-n c = record { fits = omega (arith, elements-le (c .before .args .shape) (c .before .pre .0 .admits)) }
 
-west-requires : tie.Need-west-requires
-west-requires c κs = c .before .pre .0
-
-south-requires : tie.Need-south-requires
-south-requires c κs = c .before .before .pre .0
-
 -- the four faces are there
-inside : (c : tie.After-south) → (c .before .west .result < elements (c .before .before .before .args .shape)) × (c .south .result < elements (c .before .before .before .args .shape)) × (c .before .before .before .args .e < elements (c .before .before .before .args .shape)) × (elements (c .before .before .before .args .shape) ≤ 4096) × (length (c .before .before .before .args .fluxes .now) ≡ elements (c .before .before .before .args .shape) + elements (c .before .before .before .args .shape))
-inside c =
-    let b = c .before .before .before in
-    let f = b .pre .0 .admits in (
-      omega (arith, c .before .west .ensures, west-lt (b .args .shape) (f .nx-above) (f .ny-above) (b .args .e) (b .pre .0 .inside)),
-      omega (arith, c .south .ensures, south-lt (b .args .shape) (f .nx-above) (f .ny-above) (b .args .e) (b .pre .0 .inside)),
-      b .pre .0 .inside,
-      elements-le (b .args .shape) f,
-      b .pre .1 .0,
-    )
-
-add-south : tie.Need-add-south
-add-south c = record { fits = omega (arith, inside c) }
-
-add-north : tie.Need-add-north
-add-north c = record { fits = omega (arith, inside c) }
-
-mul-positive : tie.Need-mul-positive
-mul-positive c = record { fits = omega (arith, inside c) }
-
-shared-slice-copy-out-positive : tie.Need-shared-slice-copy-out-positive
-shared-slice-copy-out-positive c = omega (arith, inside c)
+inside : (c : tie.After-south) → let b = c .before .before .before in
+    FaceOwners (b .args .shape) (b .args .e) (c .before .west .result) (c .south .result) × (length (b .args .fluxes .now) ≡ faces (b .args .shape))
+inside c = let b = c .before .before .before in (face-owners (b .pre .0) (c .before .west .ensures) (c .south .ensures), b .pre .1 .0)
 
 positive-requires : tie.Need-positive-requires
 positive-requires c κs = let h = c .before .before .before .before .pre .1 .1 in within (search sizes depth 20) tt
-
-mul-negative : tie.Need-mul-negative
-mul-negative c = record { fits = omega (arith, inside (c .before .before)) }
-
-shared-slice-copy-out-negative : tie.Need-shared-slice-copy-out-negative
-shared-slice-copy-out-negative c = omega (arith, inside (c .before .before))
 
 negative-requires : tie.Need-negative-requires
 negative-requires c κs = let h = c .before .before .before .before .before .before .pre .1 .1 in within (search sizes depth 20) tt
@@ -62,20 +34,8 @@ negative-requires c κs = let h = c .before .before .before .before .before .bef
 add-along : tie.Need-add-along
 add-along c = let a = c .negative .ensures in let b = c .before .before .positive .ensures in fits (search sizes depth 20) tt
 
-mul-positive-2 : tie.Need-mul-positive-2
-mul-positive-2 c = record { fits = omega (arith, inside (c .before .before .before .before)) }
-
-shared-slice-copy-out-positive-2 : tie.Need-shared-slice-copy-out-positive-2
-shared-slice-copy-out-positive-2 c = omega (arith, inside (c .before .before .before .before))
-
 positive-requires-2 : tie.Need-positive-requires-2
 positive-requires-2 c κs = let h = c .before .before .before .before .before .before .before .before .pre .1 .1 in within (search sizes depth 20) tt
-
-mul-negative-2 : tie.Need-mul-negative-2
-mul-negative-2 c = record { fits = omega (arith, inside (c .before .before .before .before .before .before)) }
-
-shared-slice-copy-out-negative-2 : tie.Need-shared-slice-copy-out-negative-2
-shared-slice-copy-out-negative-2 c = omega (arith, inside (c .before .before .before .before .before .before))
 
 negative-requires-2 : tie.Need-negative-requires-2
 negative-requires-2 c κs = let h = c .before .before .before .before .before .before .before .before .before .before .pre .1 .1 in within (search sizes depth 20) tt
@@ -111,4 +71,12 @@ returns c =
     are-eq (added _ _ _ _ _ _ _ _ e d b a) (λ i. pos (positive (pe i) + negative (pw i) + (positive (pn i) + negative (ps i))))
 
 pub outflow-spec : {M : Type 1} → statement M
-outflow-spec = tie.close (tie.spec mul-n west-requires south-requires add-south add-north mul-positive shared-slice-copy-out-positive positive-requires mul-negative shared-slice-copy-out-negative negative-requires add-along mul-positive-2 shared-slice-copy-out-positive-2 positive-requires-2 mul-negative-2 shared-slice-copy-out-negative-2 negative-requires-2 add-across add-result returns)
+outflow-spec = tie.close (tie.spec
+    mul-n (λ c κs. search needs) (λ c κs. search needs) (λ c. let h = inside c in search needs) (λ c. let h = inside c in search needs)
+    (λ c. let h = inside c in search needs) (λ c. let h = inside c in search needs) positive-requires
+    (λ c. let h = inside (c .before .before) in search needs) (λ c. let h = inside (c .before .before) in search needs) negative-requires
+    add-along (λ c. let h = inside (c .before .before .before .before) in search needs)
+    (λ c. let h = inside (c .before .before .before .before) in search needs) positive-requires-2
+    (λ c. let h = inside (c .before .before .before .before .before .before) in search needs)
+    (λ c. let h = inside (c .before .before .before .before .before .before) in search needs) negative-requires-2 add-across add-result
+    returns)

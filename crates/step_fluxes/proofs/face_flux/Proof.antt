@@ -3,6 +3,7 @@ use native.Mathlib.Omega.{arith}
 use lib.Dec.{lit<}
 use mir.Facts.{toZ-ofZ}
 use Rattle.whole.proofs.Sizes.{sizes, exacts, fits, bounded, are-eq}
+use Rattle.rules.proofs.ShapeLaws.{elements-le}
 use Rattle.step_upwind.specs.Upwind.{upwindStart}
 use Rattle.step_fluxes.specs.Face.{stagesSum}
 use Rattle.step_fluxes.proofs.Laws.{start-room, flux-is}
@@ -10,17 +11,19 @@ use Rattle.step_fluxes.proofs.face_flux.Statement.{statement}
 use Rattle.step_fluxes.proofs.face_flux.Tie as tie
 
 upwind-start-requires : tie.Need-upwind-start-requires
-upwind-start-requires c κs = let h = c .pre in (h .1 .1 .0, (h .1 .1 .1 .0, omega (arith, h .1 .1 .1 .1 .1 .1)))
+upwind-start-requires c κs =
+    let h = c .pre in
+    let few = elements-le (c .args .shape) (h .0 .admits) in
+    (omega (arith, few, h .1 .1 .0), (omega (arith, few, h .1 .1 .1 .0), omega (arith, h .1 .1 .1 .1)))
 
 begun : (c : tie.After-upwind-start) → c .upwind-start .result ≡ upwindStart (c .before .args .c) (c .before .args .behind) (c .before .args .ahead) (c .before .args .last)
 begun c = let a = c .before .args in c .upwind-start .ensures ∙ ap (λ z. upwindStart z (a .behind) (a .ahead) (a .last)) (toZ-ofZ (c .before .fits .c))
 
 face-sum-requires : tie.Need-face-sum-requires
 face-sum-requires c κs =
-    let b = c .before in
-    let a = b .args in
-    let h = b .pre in
-    (h .0, omega (arith, begun c, start-room (a .c) (a .behind) (a .ahead) (a .last) (a .stride) (a .length) (h .1 .1 .1 .1 .1 .1) (h .1 .1 .1 .1 .0) (h .1 .1 .1 .1 .1 .0)))
+    let a = c .before .args in
+    let h = c .before .pre in
+    (h .0, omega (arith, begun c, start-room (a .shape) (a .c) (a .behind) (a .ahead) (a .last) (a .stride) (h .1 .1 .1 .1) (h .1 .1 .0) (h .1 .1 .1 .0)))
 
 mul-result : tie.Need-mul-result
 mul-result c = let h = c .before .before .pre .1 .0 in let s = c .face-sum .ensures in fits (search sizes depth 20) tt
@@ -33,8 +36,8 @@ returns c =
     let b = c .before .before in
     let a = b .args in
     let h = b .pre .1 .0 in
-    let s = are-eq (c .face-sum .ensures) (ap (λ x. stagesSum (a .work .now) (a .length) x (a .stride)) (begun (c .before))) in
-    bounded (search exacts depth 20) tt tt (flux-is (a .work .now) (a .length) (a .c) (a .behind) (a .ahead) (a .last) (a .stride))
+    let s = are-eq (c .face-sum .ensures) (ap (λ x. stagesSum (a .shape) (a .work .now) x (a .stride)) (begun (c .before))) in
+    bounded (search exacts depth 20) tt tt (flux-is (a .shape) (a .c) (a .behind) (a .ahead) (a .last) (a .stride) (a .work .now))
 
 pub face-flux-spec : {M : Type 1} → statement M
 face-flux-spec = tie.close (tie.spec upwind-start-requires face-sum-requires mul-result div-result returns)

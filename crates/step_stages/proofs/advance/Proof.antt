@@ -1,9 +1,9 @@
-use mathlib.Core.Path.{_≡_, refl, sym, ap, ap₂, subst, _∙_}
+-- From a stage to the next: the invariant is the next stage and the sums, written as far as the turn's element; what a turn reads is as it
+-- was at the start, so that it makes the numbers that the definition gives.
+use mathlib.Core.Path.{_≡_, sym, ap, ap₂, subst, _∙_}
 use Prim.Native.Nat.{ℕ, _≤_, _<_, _-_, _+_, _*_, _/_, _%_}
 use borrow.Author.Needs.{needs}
 use native.Mathlib.Omega.{arith}
-use native.Mathlib.Nat.{add-sub-cancel-left, suc-mul}
-use native.Mathlib.Numerals.{add-one}
 use lib.IntN.{pos}
 use lib.ListN.{length, take, drop}
 use mir.Facts.{toZ-ofZ}
@@ -12,134 +12,152 @@ use Rattle.whole.specs.Table.{table, at}
 use Rattle.whole.specs.Written.{Written}
 use Rattle.whole.proofs.OverwriteLaws.{part-size}
 use Rattle.whole.proofs.TableLaws.{getD-table}
-use Rattle.whole.proofs.WrittenLaws.{written-none, written-moved, written-turn, part-kept}
-use Rattle.rules.specs.Field.{quadratic}
+use Rattle.whole.proofs.WrittenLaws.{written-none, written-moved, written-turn}
+use Rattle.rules.specs.Field.{quadratic, elements, limit}
 use Rattle.rules.specs.Stages.{tendency}
 use Rattle.rules.specs.Calls.{windAt}
+use Rattle.rules.specs.Sizes.{mostElements, stageSize, tendencySize, earlierSumSize}
 use Rattle.rules.proofs.ShapeLaws.{elements-le}
+use Rattle.step_layout.specs.Sections.{stageLength, stageStart, sumsStart, workUsed}
+use Rattle.step_layout.proofs.Laws.{next-stage, stage-ends, lent-kept}
 use Rattle.step_grid.specs.Place.{Placed}
 use Rattle.step_upwind.specs.Upwind.{asStage}
-use Rattle.step_stages.specs.Advance.{section, newSum, newValue, gridSums, gridValues}
-use Rattle.step_stages.proofs.Laws.{flat, three-sections, factor-is, tendencies-small}
+use Rattle.step_stages.specs.Advance.{newSum, newValue, lentStage, gridSums, gridValues}
+use Rattle.step_stages.proofs.Laws.{flat, factor-is, tendencies-small}
 use Rattle.step_stages.proofs.advance.Statement.{statement}
 use Rattle.step_stages.proofs.advance.Tie as tie
 
 abbrev Inv-loop : tie.InvT-loop
-Inv-loop work₀ wind shape stage n length start end from₀ to₀ sums₀ times e₀ work from to sums e = (e ≤ n) × (from ≡ e * 9) × (to ≡ end + e * 9) × (sums ≡ 4 * length + e * 9) × Written end (4 * length) (e * 9) (gridValues shape (windAt wind) stage work₀) (gridSums shape (windAt wind) stage work₀) work₀ work
+Inv-loop work₀ wind shape stage n start end from₀ to₀ sums₀ times e₀ work from to sums e = (e ≤ n) × (from ≡ from₀ + e * 9) × (to ≡ to₀ + e * 9) × (sums ≡ sums₀ + e * 9) × Written to₀ sums₀ (e * 9) (gridValues shape (windAt wind) stage work₀) (gridSums shape (windAt wind) stage work₀) work₀ work
 
 abbrev μ-loop : tie.MeasureT-loop
-μ-loop work₀ wind shape stage n length start end from₀ to₀ sums₀ times e₀ work from to sums e = n - e
-
--- the sizes of a shape's sections, and that stage `stage` and the next one end before the sums
-small : (c : tie.After-struct-known Inv-loop μ-loop) → c .before .args .shape .nx * c .before .args .shape .ny ≤ 4096
-small c = elements-le (c .before .args .shape) (c .before .pre .0)
-
-ends : (c : tie.After-struct-known Inv-loop μ-loop) → c .before .args .stage * section (c .before .args .shape) + section (c .before .args .shape) ≤ 3 * section (c .before .args .shape)
-ends c = three-sections (section (c .before .args .shape)) (c .before .args .stage) (c .before .pre .1 .1 .0)
+μ-loop work₀ wind shape stage n start end from₀ to₀ sums₀ times e₀ work from to sums e = n - e
 
 mul-n : tie.Need-mul-n Inv-loop μ-loop
-mul-n c = record { fits = omega (arith, small c) }
+mul-n c = record { fits = omega (arith, elements-le (c .before .args .shape) (c .before .pre .0)) }
 
-mul-length : tie.Need-mul-length Inv-loop μ-loop
-mul-length c = record { fits = omega (arith, small c) }
+stage-start-requires : tie.Need-stage-start-requires Inv-loop μ-loop
+stage-start-requires c κs = let h = c .before .pre in (h .0, omega (arith, h .1 .1 .0))
 
-mul-start : tie.Need-mul-start Inv-loop μ-loop
-mul-start c = record { fits = omega (arith, small c, ends c) }
+add-stage-start : tie.Need-add-stage-start Inv-loop μ-loop
+add-stage-start c = record { fits = omega (arith, c .before .before .pre .1 .1 .0) }
 
-add-end : tie.Need-add-end Inv-loop μ-loop
-add-end c = record { fits = omega (arith, small c, ends c) }
-
-mul-sums : tie.Need-mul-sums Inv-loop μ-loop
-mul-sums c = record { fits = omega (arith, small c) }
+stage-start-requires-2 : tie.Need-stage-start-requires-2 Inv-loop μ-loop
+stage-start-requires-2 c κs = let h = c .before .before .pre in (h .0, omega (arith, h .1 .1 .0))
 
 loop-holds : tie.Need-loop-holds Inv-loop μ-loop
 loop-holds c = (omega arith, omega arith, omega arith, omega arith, written-none _ _ _ _ _)
 
-mul-tendencies : tie.Need-mul-tendencies Inv-loop μ-loop
-mul-tendencies c = record { fits = omega (arith, small (c .before .before .before), ends (c .before .before .before)) }
+-- where the stage that is read starts and ends, and the stretches that are written start
+sizes : (c : tie.After-times Inv-loop μ-loop) → let b = c .before .before .before .before .before .before in
+    let g = b .args .shape in
+    let m = b .args .stage in
+    (c .before .before .before .before .stage-start .result ≡ stageStart g m) × (c .before .before .before .stage-start2 .result ≡ stageStart g m + stageLength g) × (c .before .before .stage-start3 .result ≡ stageStart g 0) × (c .before .sums-start .result ≡ sumsStart g) × (stageStart g m + stageLength g ≤ stageStart g 3) × (elements g ≤ mostElements) × (workUsed g ≤ length (b .args .work .now))
+sizes c =
+    let b = c .before .before .before .before .before .before in
+    let g = b .args .shape in
+    let h = b .pre in
+    (c .before .before .before .before .stage-start .ensures, c .before .before .before .stage-start2 .ensures ∙ next-stage g (b .args .stage), c .before .before .stage-start3 .ensures, c .before .sums-start .ensures, stage-ends g (h .1 .1 .0), elements-le g (h .0), h .1 .1 .1 .long)
 
 part-tendencies-end : tie.Need-part-tendencies-end Inv-loop μ-loop
-part-tendencies-end c = let g = c .before .before .before .before in omega (arith, ends g, c .before .before .loop .inv .4 .long, g .before .pre .1 .1 .1 .long)
+part-tendencies-end c = omega (arith, sizes (c .before .before .before), c .before .before .loop .inv .4 .long)
 
 -- the stage that is read is as it was
-lent : (c : tie.In-loop Inv-loop μ-loop) →
-    take (c .before .before .before .before .args .stage * section (c .before .before .before .before .args .shape) + section (c .before .before .before .before .args .shape) - c .before .before .before .before .args .stage * section (c .before .before .before .before .args .shape)) (drop (c .before .before .before .before .args .stage * section (c .before .before .before .before .args .shape)) (c .before .loop .work))
-    ≡ take (section (c .before .before .before .before .args .shape)) (drop (c .before .before .before .before .args .stage * section (c .before .before .before .before .args .shape)) (c .before .before .before .before .args .work .now))
+lent : (c : tie.In-loop Inv-loop μ-loop) → let t = c .before .before in
+    let start = t .before .before .before .before .stage-start .result in
+    let end = t .before .before .before .stage-start2 .result in
+    let b = t .before .before .before .before .before .before in
+    take (end - start) (drop start (c .before .loop .work)) ≡ lentStage (b .args .shape) (b .args .stage) (b .args .work .now)
 lent c =
-    let b = c .before .before .before .before in
-    let l = section (b .args .shape) in
-    let s = b .args .stage * l in
-    let h = ends (c .before .before .before) in
-    part-kept s l (s + l - s) (c .before .loop .inv .4) (add-sub-cancel-left s l) (omega (arith, h, b .pre .1 .1 .1 .long)) (λ i p q u v. omega arith) (λ i p q u v. omega (arith, h))
+    let t = c .before .before in
+    let start = t .before .before .before .before .stage-start .result in
+    let end = t .before .before .before .stage-start2 .result in
+    let h = sizes t in
+    let b = t .before .before .before .before .before .before in
+    let g = b .args .shape in
+    lent-kept (stageStart g (b .args .stage)) (stageLength g) start (end - start) (h .0) (omega (arith, h)) (c .before .loop .inv .4) (omega (arith, h)) (λ i p q u v. omega (arith, h)) (λ i p q u v. omega (arith, h))
 
-placed : (c : tie.In-loop Inv-loop μ-loop) → Placed (c .before .before .before .before .args .shape) (c .before .loop .e)
-placed c = record { admits = c .before .before .before .before .pre .0; inside = omega arith }
+placed : (c : tie.In-loop Inv-loop μ-loop) → Placed (c .before .before .before .before .before .before .before .before .args .shape) (c .before .loop .e)
+placed c = record { admits = c .before .before .before .before .before .before .before .before .pre .0; inside = omega arith }
 
 tendencies-requires : tie.Need-tendencies-requires Inv-loop μ-loop
 tendencies-requires c κs =
     let i = c .before .before in
-    let b = i .before .before .before .before in
-    let l = section (b .args .shape) in
-    let s = b .args .stage * l in (
+    let t = i .before .before in
+    let start = t .before .before .before .before .stage-start .result in
+    let end = t .before .before .before .stage-start2 .result in
+    let b = t .before .before .before .before .before .before in
+    let l = i .before .loop in (
       placed i,
       (
-        part-size l s (s + l - s) (i .before .loop .work) (add-sub-cancel-left s l) (omega (arith, ends (i .before .before .before), i .before .loop .inv .4 .long, b .pre .1 .1 .1 .long)),
-        (subst (AllWithin 1700000000) (sym (lent i)) (b .pre .1 .1 .1 .stage), b .pre .1 .0),
+        part-size (stageLength (b .args .shape)) start (end - start) (l .work) (omega (arith, sizes t)) (omega (arith, sizes t, l .inv .4 .long)),
+        (subst (AllWithin stageSize) (sym (lent i)) (b .pre .1 .1 .1 .stage), b .pre .1 .0),
       ),
     )
 
 -- what an element's turn reads is as it was
-read-values : (c : tie.In-loop Inv-loop μ-loop) (k : ℕ) → k < 9 → at (c .before .loop .work) (c .before .loop .from + k) ≡ at (c .before .before .before .before .args .work .now) (c .before .loop .e * 9 + k)
+read-values : (c : tie.In-loop Inv-loop μ-loop) (k : ℕ) → k < 9 → let b = c .before .before .before .before .before .before .before .before in
+    at (c .before .loop .work) (c .before .loop .from + k) ≡ at (b .args .work .now) (stageStart (b .args .shape) 0 + (c .before .loop .e * 9 + k))
 read-values c k h =
     let l = c .before .loop in
-    ap (λ i. at (l .work) (i + k)) (l .inv .1) ∙ l .inv .4 .kept _ (λ p q. omega arith) (λ p q. omega arith)
+    let s = sizes (c .before .before) in
+    ap (at (l .work)) (omega (arith, s, l .inv .1)) ∙ l .inv .4 .kept _ (λ p q. omega (arith, s)) (λ p q. omega (arith, s))
 
-read-sums : (c : tie.In-loop Inv-loop μ-loop) (k : ℕ) → k < 9 → at (c .before .loop .work) (c .before .loop .sums + k) ≡ at (c .before .before .before .before .args .work .now) (4 * section (c .before .before .before .before .args .shape) + (c .before .loop .e * 9 + k))
+read-sums : (c : tie.In-loop Inv-loop μ-loop) (k : ℕ) → k < 9 → let b = c .before .before .before .before .before .before .before .before in
+    at (c .before .loop .work) (c .before .loop .sums + k) ≡ at (b .args .work .now) (sumsStart (b .args .shape) + (c .before .loop .e * 9 + k))
 read-sums c k h =
     let l = c .before .loop in
-    ap (at (l .work)) (omega (arith, l .inv .3)) ∙ l .inv .4 .kept _ (λ p q. omega (arith, ends (c .before .before .before))) (λ p q. omega arith)
+    let s = sizes (c .before .before) in
+    ap (at (l .work)) (omega (arith, s, l .inv .3)) ∙ l .inv .4 .kept _ (λ p q. omega (arith, s)) (λ p q. omega (arith, s))
 
 -- the tendencies that were made
-made : (c : tie.After-tendencies Inv-loop μ-loop) → c .tendencies .result ≡ table 9 (tendency quadratic (c .before .before .before .before .before .before .before .args .shape) (windAt (c .before .before .before .before .before .before .before .args .wind .now)) (asStage (take (section (c .before .before .before .before .before .before .before .args .shape)) (drop (c .before .before .before .before .before .before .before .args .stage * section (c .before .before .before .before .before .before .before .args .shape)) (c .before .before .before .before .before .before .before .args .work .now)))) (c .before .before .before .before .loop .e))
+made : (c : tie.After-tendencies Inv-loop μ-loop) → let i = c .before .before .before in
+    let a = i .before .before .before .before .before .before .before .before .args in
+    c .tendencies .result ≡ table 9 (tendency quadratic (a .shape) (windAt (a .wind .now)) (asStage (lentStage (a .shape) (a .stage) (a .work .now))) (i .before .loop .e))
 made c =
-    let a = c .before .before .before .before .before .before .before .args in
-    c .tendencies .ensures ∙ ap (λ l. table 9 (tendency quadratic (a .shape) (windAt (a .wind .now)) (asStage l) (c .before .before .before .before .loop .e))) (lent (c .before .before .before))
+    let i = c .before .before .before in
+    let a = i .before .before .before .before .before .before .before .before .args in
+    c .tendencies .ensures ∙ ap (λ l. table 9 (tendency quadratic (a .shape) (windAt (a .wind .now)) (asStage l) (i .before .loop .e))) (lent i)
 
 advance-element-requires : tie.Need-advance-element-requires Inv-loop μ-loop
 advance-element-requires c κs =
     let i = c .before .before .before .before .before in
-    let b = i .before .before .before .before in
+    let t = i .before .before in
+    let b = t .before .before .before .before .before .before in
     let l = i .before .loop in
-    let h = ends (i .before .before .before) in
+    let h = sizes t in
     let r = b .pre .1 .1 .1 in (
       record {
         stage = b .pre .1 .1 .0;
-        before = omega (arith, l .inv .1, l .inv .2);
+        before = omega (arith, l .inv .1, l .inv .2, h);
         between = omega (arith, l .inv .2, l .inv .3, h);
-        room = omega (arith, l .inv .3, l .inv .4 .long, r .long);
-        values = λ k q. subst (Within 100000000) (sym (read-values i k q)) (r .values (l .e * 9 + k) (omega arith));
-        small = λ k q. subst (Within 6300000000) (sym (read-sums i k q)) (r .small (l .e * 9 + k) (omega arith));
+        room = omega (arith, l .inv .3, l .inv .4 .long, h);
+        values = λ k q. subst (Within limit) (sym (read-values i k q)) (r .values (l .e * 9 + k) (omega arith));
+        small = λ k q. subst (Within earlierSumSize) (sym (read-sums i k q)) (r .small (l .e * 9 + k) (omega arith));
       },
-      (toZ-ofZ (record { sfits = i .before .before .times .given }) ∙ factor-is (b .args .stage), subst (AllWithin 11900000000) (sym (made (c .before .before))) (tendencies-small (b .args .shape) (b .args .wind .now) _ (l .e) (placed i) (b .pre .1 .0) (r .stage))),
+      (toZ-ofZ (record { sfits = t .times .given }) ∙ factor-is (b .args .stage), subst (AllWithin tendencySize) (sym (made (c .before .before))) (tendencies-small (b .args .shape) (b .args .wind .now) _ (l .e) (placed i) (b .pre .1 .0) (r .stage))),
     )
 
+add-from : tie.Need-add-from Inv-loop μ-loop
+add-from c = let l = c .before .before .before .before .before .before .before .before in record { fits = omega (arith, sizes (l .before), l .loop .inv .1) }
+
 add-to : tie.Need-add-to Inv-loop μ-loop
-add-to c = let i = c .before .before .before .before .before .before .before in record { fits = omega (arith, small (i .before .before .before), ends (i .before .before .before), i .before .loop .inv .2) }
+add-to c = let l = c .before .before .before .before .before .before .before .before in record { fits = omega (arith, sizes (l .before), l .loop .inv .2) }
 
 add-sums : tie.Need-add-sums Inv-loop μ-loop
-add-sums c = let i = c .before .before .before .before .before .before .before in record { fits = omega (arith, small (i .before .before .before), i .before .loop .inv .3) }
+add-sums c = let l = c .before .before .before .before .before .before .before .before in record { fits = omega (arith, sizes (l .before), l .loop .inv .3) }
 
 loop-again : tie.Need-loop-again Inv-loop μ-loop
 loop-again c =
     let d = c .before .before .before .before in
     let i = d .before .before .before in
-    let b = i .before .before .before .before in
     let l = i .before .loop in
+    let b = i .before .before .before .before .before .before .before .before in
     let g = b .args .shape in
     let m = b .args .stage in
     let w = b .args .work .now in
     let f = windAt (b .args .wind .now) in
-    let t = asStage (take (section g) (drop (m * section g) w)) in
+    let t = asStage (lentStage g m w) in
     let each : (k : ℕ) → k < 9 → at (d .tendencies .result) k ≡ tendency quadratic g f t ((l .e * 9 + k) / 9) ((l .e * 9 + k) % 9) =
     λ k h. ap (λ x. at x k) (made d) ∙ getD-table 9 (tendency quadratic g f t (l .e)) k (pos 0) h ∙ ap₂ (tendency quadratic g f t) (sym (flat (l .e) k h .0)) (sym (flat (l .e) k h .1)) in
     let sum-is : (k : ℕ) → k < 9 → newSum m (at (l .work) (l .sums + k)) (at (d .tendencies .result) k) ≡ gridSums g f m w (l .e * 9 + k) =
@@ -148,7 +166,7 @@ loop-again c =
       omega (arith, l .inv .1),
       omega (arith, l .inv .2),
       omega (arith, l .inv .3),
-      written-turn (gridValues g f m w) (gridSums g f m w) 9 _ _ ((l .e + 1) * 9) (l .inv .2) (l .inv .3) (omega arith) (omega (arith, ends (i .before .before .before))) (l .inv .4) (c .before .advance-element .ensures)
+      written-turn (gridValues g f m w) (gridSums g f m w) 9 _ _ ((l .e + 1) * 9) (l .inv .2) (l .inv .3) (omega arith) (omega (arith, sizes (i .before .before))) (l .inv .4) (c .before .advance-element .ensures)
           (λ k h. ap₂ (newValue m) (read-values i k h) (sum-is k h)) sum-is,
     )
 
@@ -156,9 +174,12 @@ same-length : tie.Need-same-length Inv-loop μ-loop
 same-length c = c .before .loop .inv .4 .long
 
 returns : tie.Need-returns Inv-loop μ-loop
-returns c =
-    let b = c .before .before .before .before in
-    written-moved _ _ _ (sym (rw (add-one (b .args .stage)) (suc-mul (b .args .stage) (section (b .args .shape))))) refl (omega arith) (c .before .loop .inv .4)
+returns c = let t = c .before .before in written-moved _ _ _ (t .before .before .before .stage-start2 .ensures) (t .before .sums-start .ensures) (omega arith) (c .before .loop .inv .4)
 
 pub advance-spec : {M : Type 1} → statement M
-advance-spec = tie.close (tie.spec Inv-loop μ-loop mul-n mul-length mul-start add-end mul-sums (λ c. search needs) (λ c. search needs) loop-holds mul-tendencies (λ c. search needs) (λ c. search needs) part-tendencies-end tendencies-requires advance-element-requires (λ c. search needs) add-to add-sums (λ c. search needs) (λ c. search needs) loop-again same-length returns)
+advance-spec = tie.close (tie.spec
+    Inv-loop μ-loop mul-n stage-start-requires add-stage-start stage-start-requires-2 (λ c κs. search needs) (λ c κs. search needs)
+    (λ c. search needs) (λ c. search needs) loop-holds (λ c. let h = sizes (c .before .before) in search needs)
+    (λ c. let h = sizes (c .before .before) in search needs) (λ c. let h = sizes (c .before .before .before) in search needs)
+    part-tendencies-end tendencies-requires advance-element-requires add-from add-to add-sums (λ c. search needs) (λ c. search needs)
+    loop-again same-length returns)

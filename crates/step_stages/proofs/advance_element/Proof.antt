@@ -1,3 +1,5 @@
+-- One element's sums and values of the next stage: the invariant is both stretches of work, written as far as the turn's node. The machine's
+-- numbers are the definition's, since each is within its size.
 use mathlib.Core.Path.{_≡_, sym, ap, ap₂, subst, _∙_}
 use Prim.Native.Nat.{_≤_, _-_, _+_, _*_}
 use borrow.Author.Needs.{needs}
@@ -14,6 +16,8 @@ use Rattle.whole.proofs.Sizes.{sizes, exacts, fits, within, exact, are-eq, are-
 use Rattle.step_stages.specs.Advance.{divisor, elementSums, elementValues}
 use Rattle.step_stages.proofs.Laws.{factors, factor-is}
 use Rattle.step_stages.proofs.advance_element.Statement.{statement}
+use Rattle.rules.specs.Sizes.{earlierSumSize}
+use Rattle.rules.specs.Field.{limit}
 use Rattle.step_stages.proofs.advance_element.Tie as tie
 
 abbrev Inv-loop : tie.InvT-loop
@@ -29,35 +33,17 @@ loop-holds c = (omega arith, written-none _ _ _ _ _)
 value-is : (c : tie.In-loop Inv-loop μ-loop) → at (c .before .loop .work) (c .before .before .args .from + c .before .loop .k) ≡ at (c .before .before .args .work .now) (c .before .before .args .from + c .before .loop .k)
 value-is c = let h = c .before .before .pre .0 in c .before .loop .inv .1 .kept _ (λ p q. omega (arith, h .before)) (λ p q. omega (arith, h .before, h .between))
 
-value-small : (c : tie.In-loop Inv-loop μ-loop) → Within 100000000 (at (c .before .loop .work) (c .before .before .args .from + c .before .loop .k))
-value-small c = subst (λ (z : ℤ). Within 100000000 z) (sym (value-is c)) (c .before .before .pre .0 .values (c .before .loop .k) (omega arith))
+value-small : (c : tie.In-loop Inv-loop μ-loop) → Within limit (at (c .before .loop .work) (c .before .before .args .from + c .before .loop .k))
+value-small c = subst (λ (z : ℤ). Within limit z) (sym (value-is c)) (c .before .before .pre .0 .values (c .before .loop .k) (omega arith))
 
 sum-is : (c : tie.In-loop Inv-loop μ-loop) → at (c .before .loop .work) (c .before .before .args .sums + c .before .loop .k) ≡ at (c .before .before .args .work .now) (c .before .before .args .sums + c .before .loop .k)
 sum-is c = let h = c .before .before .pre .0 in c .before .loop .inv .1 .kept _ (λ p q. omega (arith, h .between)) (λ p q. omega arith)
 
-sum-small : (c : tie.In-loop Inv-loop μ-loop) → Within 6300000000 (at (c .before .loop .work) (c .before .before .args .sums + c .before .loop .k))
-sum-small c = subst (λ (z : ℤ). Within 6300000000 z) (sym (sum-is c)) (c .before .before .pre .0 .small (c .before .loop .k) (omega arith))
+sum-small : (c : tie.In-loop Inv-loop μ-loop) → Within earlierSumSize (at (c .before .loop .work) (c .before .before .args .sums + c .before .loop .k))
+sum-small c = subst (λ (z : ℤ). Within earlierSumSize z) (sym (sum-is c)) (c .before .before .pre .0 .small (c .before .loop .k) (omega arith))
 
 room : (c : tie.In-loop Inv-loop μ-loop) → (c .before .before .args .sums + 9 ≤ length (c .before .loop .work)) × (c .before .before .args .to + 9 ≤ c .before .before .args .sums) × (c .before .before .args .from + 9 ≤ c .before .before .args .to)
 room c = let h = c .before .before .pre .0 in (omega (arith, h .room, c .before .loop .inv .1 .long), h .between, h .before)
-
-add-value : tie.Need-add-value Inv-loop μ-loop
-add-value c = record { fits = omega (arith, room c) }
-
-mul-value : tie.Need-mul-value Inv-loop μ-loop
-mul-value c = record { fits = omega (arith, room c) }
-
-slice-copy-out-value : tie.Need-slice-copy-out-value Inv-loop μ-loop
-slice-copy-out-value c = omega (arith, room c)
-
-add-sum : tie.Need-add-sum Inv-loop μ-loop
-add-sum c = record { fits = omega (arith, room (c .before)) }
-
-mul-sum : tie.Need-mul-sum Inv-loop μ-loop
-mul-sum c = record { fits = omega (arith, room (c .before)) }
-
-slice-copy-out-sum : tie.Need-slice-copy-out-sum Inv-loop μ-loop
-slice-copy-out-sum c = omega (arith, room (c .before))
 
 -- the factor is at most 4
 times-small : (c : tie.In-loop Inv-loop μ-loop) → Within 6 (c .before .before .args .times)
@@ -83,12 +69,6 @@ add-work c =
     let v = value-small b in
     let d = c .divided .ensures in
     fits (search sizes depth 20) tt
-
-add-t13 : tie.Need-add-t13 Inv-loop μ-loop
-add-t13 c = record { fits = omega (arith, room (c .before .before .before .before)) }
-
-mul-t17 : tie.Need-mul-t17 Inv-loop μ-loop
-mul-t17 c = record { fits = omega (arith, room (c .before .before .before .before)) }
 
 slice-set-from-work : tie.Need-slice-set-from-work Inv-loop μ-loop
 slice-set-from-work c = rw length-set (omega (arith, room (c .before .before .before .before)))
@@ -122,4 +102,11 @@ returns : tie.Need-returns Inv-loop μ-loop
 returns c = let e : c .before .loop .k ≡ 9 = omega arith in rw e at (c .before .loop .inv .1)
 
 pub advance-element-spec : {M : Type 1} → statement M
-advance-element-spec = tie.close (tie.spec Inv-loop μ-loop loop-holds add-value mul-value slice-copy-out-value add-sum mul-sum slice-copy-out-sum (λ c. search needs) (λ c. search needs) mul-sum-3 add-sum-2 (λ c. search needs) (λ c. search needs) (λ c. search needs) divided-requires add-work add-t13 mul-t17 slice-set-from-work (λ c. search needs) (λ c. search needs) loop-again same-length returns)
+advance-element-spec = tie.close (tie.spec
+    Inv-loop μ-loop loop-holds (λ c. let h = room c in search needs) (λ c. let h = room c in search needs)
+    (λ c. let h = room c in search needs) (λ c. let h = room (c .before) in search needs) (λ c. let h = room (c .before) in search needs)
+    (λ c. let h = room (c .before) in search needs) (λ c. search needs) (λ c. search needs) mul-sum-3 add-sum-2 (λ c. search needs)
+    (λ c. search needs) (λ c. search needs) divided-requires add-work
+    (λ c. let h = room (c .before .before .before .before) in search needs)
+    (λ c. let h = room (c .before .before .before .before) in search needs) slice-set-from-work (λ c. search needs) (λ c. search needs)
+    loop-again same-length returns)

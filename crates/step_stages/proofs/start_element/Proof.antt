@@ -1,3 +1,4 @@
+-- One element's stored values and zero sums: the invariant is both stretches of work, written as far as the turn's node.
 use mathlib.Core.Path.{_≡_, refl}
 use Prim.Native.Nat.{_≤_, _-_, _+_}
 use borrow.Author.Needs.{needs}
@@ -23,23 +24,8 @@ loop-holds c = (omega arith, written-none _ _ _ _ _)
 room : (c : tie.In-loop Inv-loop μ-loop) → (c .before .before .args .sums + 9 ≤ length (c .before .loop .work)) × (c .before .before .args .to + 9 ≤ c .before .before .args .sums)
 room c = let h = c .before .before .pre in (omega (arith, h .1 .1, c .before .loop .inv .1 .long), h .1 .0)
 
-add-work : tie.Need-add-work Inv-loop μ-loop
-add-work c = record { fits = omega (arith, room c) }
-
-mul-work : tie.Need-mul-work Inv-loop μ-loop
-mul-work c = record { fits = omega (arith, room c) }
-
-slice-set-of-work : tie.Need-slice-set-of-work Inv-loop μ-loop
-slice-set-of-work c = omega (arith, room c)
-
 cast-work : tie.Need-cast-work Inv-loop μ-loop
 cast-work c = record { sfits = omega (arith, c .shared-slice-known .given (c .before .before .loop .k)) }
-
-add-t8 : tie.Need-add-t8 Inv-loop μ-loop
-add-t8 c = record { fits = omega (arith, room (c .before)) }
-
-mul-t13 : tie.Need-mul-t13 Inv-loop μ-loop
-mul-t13 c = record { fits = omega (arith, room (c .before)) }
 
 slice-set-from-work : tie.Need-slice-set-from-work Inv-loop μ-loop
 slice-set-from-work c = rw length-set (omega (arith, room (c .before)))
@@ -58,4 +44,8 @@ returns : tie.Need-returns Inv-loop μ-loop
 returns c = let e : c .before .loop .k ≡ 9 = omega arith in rw e at (c .before .loop .inv .1)
 
 pub start-element-spec : {M : Type 1} → statement M
-start-element-spec = tie.close (tie.spec Inv-loop μ-loop loop-holds add-work mul-work slice-set-of-work (λ c. search needs) (λ c. search needs) cast-work add-t8 mul-t13 slice-set-from-work (λ c. search needs) (λ c. search needs) loop-again same-length returns)
+start-element-spec = tie.close (tie.spec
+    Inv-loop μ-loop loop-holds (λ c. let h = room c in search needs) (λ c. let h = room c in search needs)
+    (λ c. let h = room c in search needs) (λ c. search needs) (λ c. search needs) cast-work
+    (λ c. let h = room (c .before) in search needs) (λ c. let h = room (c .before) in search needs) slice-set-from-work
+    (λ c. search needs) (λ c. search needs) loop-again same-length returns)

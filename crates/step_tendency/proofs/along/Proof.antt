@@ -1,3 +1,4 @@
+-- The sum over a line of nodes: the invariant is the sum of the terms so far, and `terms-within` bounds it at every turn.
 use mathlib.Core.Path.{_≡_, refl, sym, _∙_}
 use Prim.Native.Nat.{_≤_, _-_, _*_}
 use borrow.Author.Needs.{needs}
@@ -11,10 +12,11 @@ use Rattle.whole.proofs.SumLaws.{sumℤ-more}
 use Rattle.whole.proofs.Sizes.{sizes, exacts, fits, exact, are-eq}
 use Rattle.step_tendency.proofs.Laws.{term, terms-are, terms-within}
 use Rattle.step_tendency.proofs.along.Statement.{statement}
+use Rattle.step_tendency.specs.Sizes.{lineSumSize}
 use Rattle.step_tendency.proofs.along.Tie as tie
 
 abbrev Inv-loop : tie.InvT-loop
-Inv-loop c v start stride place x₀ q₀ x q = (q ≤ 3) × Are 752025600000000 (toZ w64 x) (sumℤ q (term c v start stride place))
+Inv-loop c v start stride place x₀ q₀ x q = (q ≤ 3) × Are lineSumSize (toZ w64 x) (sumℤ q (term c v start stride place))
 
 abbrev μ-loop : tie.MeasureT-loop
 μ-loop c v start stride place x₀ q₀ x q = 3 - q
@@ -26,18 +28,6 @@ loop-holds c = (omega arith, record { same = refl; bound = record { within = ome
 -- a line's places are within the element
 reach : (c : tie.After-x Inv-loop μ-loop) → c .before .before .before .args .stride * c .before .before .loop .q ≤ c .before .before .before .args .stride * 2
 reach c = mul-le-mul-left (c .before .before .before .args .stride) (omega arith)
-
-mul-x-2 : tie.Need-mul-x-2 Inv-loop μ-loop
-mul-x-2 c = record { fits = omega (arith, reach c) }
-
-add-x : tie.Need-add-x Inv-loop μ-loop
-add-x c = record { fits = omega (arith, reach c) }
-
-mul-x-3 : tie.Need-mul-x-3 Inv-loop μ-loop
-mul-x-3 c = record { fits = omega (arith, reach c) }
-
-element-copy-out-x-2 : tie.Need-element-copy-out-x-2 Inv-loop μ-loop
-element-copy-out-x-2 c = omega (arith, reach c)
 
 mul-x-4 : tie.Need-mul-x-4 Inv-loop μ-loop
 mul-x-4 c = let h = c .before .before .before .before .pre in fits (search sizes depth 20) tt
@@ -61,4 +51,7 @@ returns : tie.Need-returns Inv-loop μ-loop
 returns c = let a = c .before .before .args in let e : c .before .loop .q ≡ 3 = omega arith in are-eq (rw e at (c .before .loop .inv .1)) (terms-are (a .c .now) (a .v .now) (a .start) (a .stride) (a .place))
 
 pub along-spec : {M : Type 1} → statement M
-along-spec = tie.close (tie.spec Inv-loop μ-loop loop-holds (λ c. search needs) (λ c. search needs) mul-x-2 add-x mul-x-3 element-copy-out-x-2 mul-x-4 (λ c. search needs) (λ c. search needs) (λ c. search needs) (λ c. search needs) mul-x-7 add-x-3 (λ c. search needs) (λ c. search needs) loop-again returns)
+along-spec = tie.close (tie.spec Inv-loop μ-loop loop-holds (λ c. search needs) (λ c. search needs) (λ c. let h = reach c in search needs)
+    (λ c. let h = reach c in search needs) (λ c. let h = reach c in search needs) (λ c. let h = reach c in search needs) mul-x-4
+    (λ c. search needs) (λ c. search needs) (λ c. search needs) (λ c. search needs) mul-x-7 add-x-3 (λ c. search needs)
+    (λ c. search needs) loop-again returns)

@@ -1,3 +1,4 @@
+-- One line of nodes: the invariant is the table of its numbers, filled as far as the turn.
 use mathlib.Core.Path.{_≡_, refl, sym, ap, ap₂, _∙_}
 use mathlib.Core.List.{_++_, append-nil}
 use Prim.Native.Nat.{_≤_, _-_, _+_}
@@ -59,4 +60,6 @@ returns c =
     ∙ ap₂ (λ x y. table 3 (lineAt (a .c .now) (a .v .now) (a .start) (a .stride) x y)) (toZ-ofZ (b .fits .first)) (toZ-ofZ (b .fits .last))
 
 pub line-spec : {M : Type 1} → statement M
-line-spec = tie.close (tie.spec Inv-loop μ-loop loop-holds along-requires with-ends-requires (λ c. search needs) slice-set-from-out (λ c. search needs) (λ c. search needs) loop-again same-length returns)
+line-spec = tie.close (tie.spec
+    Inv-loop μ-loop loop-holds along-requires with-ends-requires (λ c. search needs) slice-set-from-out (λ c. search needs)
+    (λ c. search needs) loop-again same-length returns)

@@ -1,3 +1,4 @@
+-- X (or Y) at every node: the invariant is the lines so far, three numbers each, and `rows-are` says that all of them are the rules' advection.
 use mathlib.Core.Path.{_≡_, refl, sym, ap, ap₂, subst, _∙_}
 use mathlib.Core.List.{_++_, append-nil}
 use Prim.Native.Nat.{_≤_, _-_, _+_, _*_}
@@ -16,6 +17,7 @@ use Rattle.whole.proofs.Sizes.{sizes, exacts, fits, within, exact}
 use Rattle.step_tendency.specs.Line.{lineAt, lineNodes}
 use Rattle.step_tendency.proofs.Laws.{lineRow, rows-are, weighedWind-within}
 use Rattle.step_tendency.proofs.lines.Statement.{statement}
+use Rattle.step_tendency.specs.Sizes.{placeWindSize}
 use Rattle.step_tendency.proofs.lines.Tie as tie
 
 abbrev Inv-loop : tie.InvT-loop
@@ -58,14 +60,11 @@ reach : (c : tie.After-x Inv-loop μ-loop) → c .before .before .before .before
 reach c = mul-le-mul-left (c .before .before .before .before .before .before .args .step) (omega arith)
 
 -- the winds of the places
-winds : (c : tie.After-x Inv-loop μ-loop) → AllWithin 8192 (c .before .before .before .before .before .place-winds .result)
+winds : (c : tie.After-x Inv-loop μ-loop) → AllWithin placeWindSize (c .before .before .before .before .before .place-winds .result)
 winds c =
     let b = c .before .before .before .before .before .before in
     let h = b .pre in
-    subst (λ l. AllWithin 8192 l) (sym (c .before .before .before .before .before .place-winds .ensures)) (weighedWind-within _ _ (within (search sizes depth 20) tt) (within (search sizes depth 20) tt))
-
-mul-line : tie.Need-mul-line Inv-loop μ-loop
-mul-line c = record { fits = omega (arith, reach (c .before)) }
+    subst (λ l. AllWithin placeWindSize l) (sym (c .before .before .before .before .before .place-winds .ensures)) (weighedWind-within _ _ (within (search sizes depth 20) tt) (within (search sizes depth 20) tt))
 
 line-requires : tie.Need-line-requires Inv-loop μ-loop
 line-requires c κs =
@@ -103,4 +102,8 @@ returns c =
     ∙ ap₂ (λ x y. table 9 (lineNodes (a .v .now) x y (a .u .now) (a .side) (a .step) (a .stride))) (toZ-ofZ (b .fits .cw)) (toZ-ofZ (b .fits .ce))
 
 pub lines-spec : {M : Type 1} → statement M
-lines-spec = tie.close (tie.spec Inv-loop μ-loop place-winds-requires loop-holds (λ c. search needs) mul-first (λ c. search needs) (λ c. search needs) (λ c. search needs) mul-first-3 mul-last (λ c. search needs) (λ c. search needs) (λ c. search needs) (λ c. search needs) mul-last-3 (λ c. search needs) (λ c. search needs) (λ c. search needs) part-x-end mul-line line-requires (λ c. search needs) (λ c. search needs) loop-again returns)
+lines-spec = tie.close (tie.spec
+    Inv-loop μ-loop place-winds-requires loop-holds (λ c. search needs) mul-first (λ c. search needs) (λ c. search needs)
+    (λ c. search needs) mul-first-3 mul-last (λ c. search needs) (λ c. search needs) (λ c. search needs) (λ c. search needs) mul-last-3
+    (λ c. search needs) (λ c. search needs) (λ c. search needs) part-x-end (λ c. let h = reach (c .before) in search needs) line-requires
+    (λ c. search needs) (λ c. search needs) loop-again returns)

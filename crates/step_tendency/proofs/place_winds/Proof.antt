@@ -25,23 +25,24 @@ loop-holds : tie.Need-loop-holds Inv-loop μ-loop
 unfolding table
 loop-holds c = (omega arith, refl, refl)
 
-mul-c-3 : tie.Need-mul-c-3 Inv-loop μ-loop
-mul-c-3 c = let h = c .before .before .before .before .pre in fits (search sizes depth 20) tt
+mul-c-2 : tie.Need-mul-c-2 Inv-loop μ-loop
+mul-c-2 c = let h = c .before .before .before .before .pre in fits (search sizes depth 20) tt
 
-mul-c-5 : tie.Need-mul-c-5 Inv-loop μ-loop
-mul-c-5 c = let h = c .before .before .before .before .before .pre in fits (search sizes depth 20) tt
+mul-c-4 : tie.Need-mul-c-4 Inv-loop μ-loop
+mul-c-4 c = let h = c .before .before .before .before .before .pre in fits (search sizes depth 20) tt
 
 add-c : tie.Need-add-c Inv-loop μ-loop
 add-c c = let h = c .before .before .before .before .before .pre in fits (search sizes depth 20) tt
 
-mul-c-6 : tie.Need-mul-c-6 Inv-loop μ-loop
-mul-c-6 c = let h = c .before .before .before .before .before .pre in fits (search sizes depth 20) tt
+mul-c-5 : tie.Need-mul-c-5 Inv-loop μ-loop
+mul-c-5 c = let h = c .before .before .before .before .before .pre in let ω = c .before .before .line-weight .ensures in fits (search sizes depth 20) tt
 
 loop-again : tie.Need-loop-again Inv-loop μ-loop
 loop-again c =
     let b = c .before .before .before .before .before in
     let l = c .before .before .before .before .loop in
     let h = b .pre in
+    let ω = c .before .before .line-weight .ensures in
     let cw = toZ w64 (ofZ w64 (b .args .cw)) in
     let ce = toZ w64 (ofZ w64 (b .args .ce)) in
     (omega arith, rw length-set (l .inv .1), fill-next (l .q) (weighedWind cw ce) _ _ _ (l .inv .2) (omega arith) (exact (search exacts depth 20) tt ∙ wind-is (b .args .cw) (b .args .ce) (l .q) (omega arith) ∙ ap₂ (λ x y. weighedWind x y (l .q)) (sym (toZ-ofZ (b .fits .cw))) (sym (toZ-ofZ (b .fits .ce)))))
@@ -53,4 +54,7 @@ returns c =
     (rw e at (c .before .loop .inv .2)) ∙ append-nil _ ∙ ap₂ (λ x y. table 3 (weighedWind x y)) (toZ-ofZ (b .fits .cw)) (toZ-ofZ (b .fits .ce))
 
 pub place-winds-spec : {M : Type 1} → statement M
-place-winds-spec = tie.close (tie.spec Inv-loop μ-loop loop-holds (λ c. search needs) (λ c. search needs) (λ c. search needs) (λ c. search needs) mul-c-3 (λ c. search needs) (λ c. search needs) mul-c-5 add-c mul-c-6 (λ c. search needs) (λ c. search needs) (λ c. search needs) (λ c. search needs) loop-again returns)
+place-winds-spec = tie.close (tie.spec
+    Inv-loop μ-loop loop-holds (λ c κs. search needs) (λ c. search needs) (λ c. search needs) mul-c-2 (λ c. search needs)
+    (λ c. search needs) mul-c-4 add-c mul-c-5 (λ c. search needs) (λ c. search needs) (λ c. search needs) (λ c. search needs) loop-again
+    returns)

@@ -1,3 +1,4 @@
+-- The tendency at every node: the invariant is the table so far of X and Y combined at a node, and `all-combined` says that it is the rules' tendency.
 use mathlib.Core.Path.{_≡_, refl, sym, ap₂, subst, _∙_}
 use mathlib.Core.List.{_++_, append-nil}
 use Prim.Native.Nat.{_≤_, _-_, _+_}
@@ -12,6 +13,7 @@ use Rattle.whole.proofs.Sizes.{sizes, exacts-shift, fits, within, exact, back-i
 use Rattle.step_tendency.specs.Line.{lineNodes}
 use Rattle.step_tendency.proofs.Laws.{nodes-within, combined, all-combined, shift-lt}
 use Rattle.step_tendency.proofs.tendencies.Statement.{statement}
+use Rattle.step_tendency.specs.Sizes.{advectionSize}
 use Rattle.step_tendency.proofs.tendencies.Tie as tie
 
 abbrev Inv-loop : tie.InvT-loop
@@ -40,26 +42,26 @@ ys c =
     c .lines2 .ensures ∙ ap₂ (λ x y. table 9 (lineNodes (b .args .v .now) x y (b .args .u .now) 6 1 3)) (back-is w64 _ (h .all 2) tt) (back-is w64 _ (h .all 3) tt)
 
 -- and their sizes
-small : (c : tie.After-lines2 Inv-loop μ-loop) → AllWithin 194969600000000 (c .before .before .before .lines .result) × AllWithin 194969600000000 (c .lines2 .result)
+small : (c : tie.After-lines2 Inv-loop μ-loop) → AllWithin advectionSize (c .before .before .before .lines .result) × AllWithin advectionSize (c .lines2 .result)
 small c =
     let b = c .before .before .before .before .before .before in
     let h = b .pre in (
-      subst (λ l. AllWithin 194969600000000 l) (sym (xs c)) (nodes-within (b .args .v .now) _ _ (b .args .u .now) 0 3 1 (h .0) (h .1 .0 .all 0) (h .1 .0 .all 1) (h .1 .1)),
-      subst (λ l. AllWithin 194969600000000 l) (sym (ys c)) (nodes-within (b .args .v .now) _ _ (b .args .u .now) 6 1 3 (h .0) (h .1 .0 .all 2) (h .1 .0 .all 3) (h .1 .1)),
+      subst (λ l. AllWithin advectionSize l) (sym (xs c)) (nodes-within (b .args .v .now) _ _ (b .args .u .now) 0 3 1 (h .0) (h .1 .0 .all 0) (h .1 .0 .all 1) (h .1 .1)),
+      subst (λ l. AllWithin advectionSize l) (sym (ys c)) (nodes-within (b .args .v .now) _ _ (b .args .u .now) 6 1 3 (h .0) (h .1 .0 .all 2) (h .1 .0 .all 3) (h .1 .1)),
     )
 
 loop-holds : tie.Need-loop-holds Inv-loop μ-loop
 unfolding table
 loop-holds c = (omega arith, refl, refl)
 
-mul-t-3 : tie.Need-mul-t-3 Inv-loop μ-loop
-mul-t-3 c = let h = small (c .before .before .before .before) in fits (search sizes depth 20) tt
+mul-t-2 : tie.Need-mul-t-2 Inv-loop μ-loop
+mul-t-2 c = let h = small (c .before .before .before .before) in let ω = c .before .line-weight .ensures in fits (search sizes depth 20) tt
 
-mul-t-7 : tie.Need-mul-t-7 Inv-loop μ-loop
-mul-t-7 c = let h = small (c .before .before .before .before .before .before) in fits (search sizes depth 20) tt
+mul-t-5 : tie.Need-mul-t-5 Inv-loop μ-loop
+mul-t-5 c = let h = small (c .before .before .before .before .before .before) in let ω = c .before .line-weight2 .ensures in fits (search sizes depth 20) tt
 
 add-t-2 : tie.Need-add-t-2 Inv-loop μ-loop
-add-t-2 c = let h = small (c .before .before .before .before .before .before) in fits (search sizes depth 20) tt
+add-t-2 c = let h = small (c .before .before .before .before .before .before) in let ω = c .before .line-weight2 .ensures in let ω2 = c .before .before .before .line-weight .ensures in fits (search sizes depth 20) tt
 
 cast-t : tie.Need-cast-t Inv-loop μ-loop
 cast-t c = record { sfits = omega (arith, shift-lt (c .before .before .before .before .before .loop .k) (omega arith)) }
@@ -72,6 +74,8 @@ loop-again c =
     let l = c .before .before .before .before .before .loop in
     let g = c .before .before .before .before .before .before in
     let h = small g in
+    let ωa = c .before .line-weight2 .ensures in
+    let ωb = c .before .before .before .line-weight .ensures in
     (omega arith, rw length-set (l .inv .1), fill-next (l .k) (combined (g .before .before .before .lines .result) (g .lines2 .result)) _ _ _ (l .inv .2) (omega arith) (exact (search exacts-shift depth 20) tt))
 
 returns : tie.Need-returns Inv-loop μ-loop
@@ -82,4 +86,8 @@ returns c =
     (rw e at (c .before .loop .inv .2)) ∙ append-nil _ ∙ ap₂ (λ x y. table 9 (combined x y)) (xs g) (ys g) ∙ all-combined (a .v .now) (a .c .now) (a .u .now)
 
 pub tendencies-spec : {M : Type 1} → statement M
-tendencies-spec = tie.close (tie.spec Inv-loop μ-loop (λ c. search needs) (λ c. search needs) lines-requires (λ c. search needs) (λ c. search needs) lines-requires-2 loop-holds (λ c. search needs) (λ c. search needs) (λ c. search needs) (λ c. search needs) mul-t-3 (λ c. search needs) (λ c. search needs) (λ c. search needs) (λ c. search needs) (λ c. search needs) (λ c. search needs) mul-t-7 add-t-2 (λ c. search needs) (λ c. search needs) cast-t shr-t (λ c. search needs) (λ c. search needs) (λ c. search needs) (λ c. search needs) loop-again returns)
+tendencies-spec = tie.close (tie.spec
+    Inv-loop μ-loop (λ c. search needs) (λ c. search needs) lines-requires (λ c. search needs) (λ c. search needs) (λ c. search needs)
+    lines-requires-2 loop-holds (λ c κs. search needs) (λ c. search needs) (λ c. search needs) mul-t-2 (λ c κs. search needs)
+    (λ c. search needs) (λ c. search needs) (λ c. search needs) (λ c. search needs) mul-t-5 add-t-2 (λ c. search needs)
+    (λ c. search needs) cast-t shr-t (λ c. search needs) (λ c. search needs) (λ c. search needs) (λ c. search needs) loop-again returns)

@@ -1,41 +1,22 @@
+-- The four winds are read at places that the element, its west and its south neighbour own; each is widened from 16 bits.
 use mathlib.Core.Path.{ap, _∙_}
 use mathlib.Core.List.{[], _∷_}
-use Prim.Native.Nat.{_<_, _+_, _*_}
+use Prim.Native.Nat.{_+_, _*_}
 use borrow.Author.Needs.{needs}
 use native.Mathlib.Omega.{arith}
 use Rattle.whole.proofs.Sizes.{sizes-wide, fits, widened}
 use Rattle.rules.specs.Calls.{windAt}
-use Rattle.rules.proofs.GridLaws.{west-lt, south-lt}
 use Rattle.rules.proofs.ShapeLaws.{elements-le}
+use Rattle.step_grid.proofs.PlaceLaws.{FaceOwners, face-owners}
 use Rattle.step_upwind.proofs.side_winds.Statement.{statement}
 use Rattle.step_upwind.proofs.side_winds.Tie as tie
 
 mul-n : tie.Need-mul-n
 mul-n c = record { fits = omega (arith, elements-le (c .before .args .shape) (c .before .pre .0 .admits)) }
 
-west-requires : tie.Need-west-requires
-west-requires c κs = c .before .pre .0
-
-south-requires : tie.Need-south-requires
-south-requires c κs = c .before .before .pre .0
-
 -- the four faces are there
-inside : (c : tie.After-south) → (c .before .west .result < c .before .before .before .args .shape .nx * c .before .before .before .args .shape .ny) × (c .south .result < c .before .before .before .args .shape .nx * c .before .before .before .args .shape .ny)
-inside c =
-    let b = c .before .before .before in
-    let f = b .pre .0 .admits in (
-      omega (arith, c .before .west .ensures, west-lt (b .args .shape) (f .nx-above) (f .ny-above) (b .args .e) (b .pre .0 .inside)),
-      omega (arith, c .south .ensures, south-lt (b .args .shape) (f .nx-above) (f .ny-above) (b .args .e) (b .pre .0 .inside)),
-    )
-
-add-south : tie.Need-add-south
-add-south c = let b = c .before .before .before in record { fits = omega (arith, inside c, elements-le (b .args .shape) (b .pre .0 .admits)) }
-
-add-north : tie.Need-add-north
-add-north c = let b = c .before .before .before in record { fits = omega (arith, b .pre .0 .inside, elements-le (b .args .shape) (b .pre .0 .admits)) }
-
-mul-t8 : tie.Need-mul-t8
-mul-t8 c = let b = c .before .before .before in record { fits = omega (arith, inside c, elements-le (b .args .shape) (b .pre .0 .admits)) }
+inside : (c : tie.After-south) → FaceOwners (c .before .before .before .args .shape) (c .before .before .before .args .e) (c .before .west .result) (c .south .result)
+inside c = face-owners (c .before .before .before .pre .0) (c .before .west .ensures) (c .south .ensures)
 
 shared-slice-copy-out-t10 : tie.Need-shared-slice-copy-out-t10
 shared-slice-copy-out-t10 c = omega (arith, inside c, c .before .before .before .pre .1 .long)
@@ -48,9 +29,6 @@ shared-slice-copy-out-t14 c = let b = c .before .before .before .before in omega
 
 cast-t15 : tie.Need-cast-t15
 cast-t15 c = let h = c .t14 .given in fits (search sizes-wide depth 20) tt
-
-mul-t16 : tie.Need-mul-t16
-mul-t16 c = let b = c .before .before .before .before .before in record { fits = omega (arith, inside (c .before .before), elements-le (b .args .shape) (b .pre .0 .admits)) }
 
 shared-slice-copy-out-t18 : tie.Need-shared-slice-copy-out-t18
 shared-slice-copy-out-t18 c = let b = c .before .before .before .before .before in omega (arith, inside (c .before .before), b .pre .1 .long)
@@ -73,4 +51,8 @@ returns c =
     λ i. (widened _ (c .before .before .before .t10 .given) ∙ ap w (s .before .west .ensures)) i ∷ widened (w (a .e)) (c .before .before .t14 .given) i ∷ (widened _ (c .before .t18 .given) ∙ ap (λ x. w (n + x)) (s .south .ensures)) i ∷ widened (w (n + a .e)) (c .t22 .given) i ∷ []
 
 pub side-winds-spec : {M : Type 1} → statement M
-side-winds-spec = tie.close (tie.spec mul-n west-requires south-requires add-south add-north mul-t8 shared-slice-copy-out-t10 cast-t11 (λ c. search needs) shared-slice-copy-out-t14 cast-t15 mul-t16 shared-slice-copy-out-t18 cast-t19 (λ c. search needs) shared-slice-copy-out-t22 cast-t23 returns)
+side-winds-spec = tie.close (tie.spec
+    mul-n (λ c κs. search needs) (λ c κs. search needs) (λ c. let h = inside c in search needs) (λ c. let h = inside c in search needs)
+    (λ c. let h = inside c in search needs) shared-slice-copy-out-t10 cast-t11 (λ c. search needs) shared-slice-copy-out-t14 cast-t15
+    (λ c. let h = inside (c .before .before) in search needs) shared-slice-copy-out-t18 cast-t19 (λ c. search needs)
+    shared-slice-copy-out-t22 cast-t23 returns)

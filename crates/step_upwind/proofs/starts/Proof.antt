@@ -1,3 +1,5 @@
+-- Where the upwind lines of the four sides begin: the invariant is the table filled as far as the turn, of the elements behind and ahead as
+-- the code's two arrays have them.
 use mathlib.Core.Path.{_≡_, refl, sym, ap, subst, _∙_}
 use mathlib.Core.List.{List, [], _∷_, _++_, append-nil}
 use Prim.Native.Nat.{ℕ, _≤_, _<_, _-_, _+_}
@@ -11,6 +13,7 @@ use Rattle.step_upwind.specs.Upwind.{behinds, aheads, lasts, upwindStart
 use Rattle.step_upwind.proofs.Laws.{behind-inside, ahead-inside, last-lt}
 use Rattle.step_upwind.proofs.starts.Statement.{statement}
 use Rattle.rules.proofs.ShapeLaws.{elements-le}
+use Rattle.rules.specs.Sizes.{mostElements}
 use Rattle.step_upwind.proofs.starts.Tie as tie
 
 abbrev Inv-loop : tie.InvT-loop
@@ -18,18 +21,6 @@ Inv-loop c e west east south north behind ahead s₀ side₀ s side = (side ≤ 
 
 abbrev μ-loop : tie.MeasureT-loop
 μ-loop c e west east south north behind ahead s₀ side₀ s side = 4 - side
-
-west-requires : tie.Need-west-requires Inv-loop μ-loop
-west-requires c κs = c .pre
-
-east-requires : tie.Need-east-requires Inv-loop μ-loop
-east-requires c κs = c .before .pre
-
-south-requires : tie.Need-south-requires Inv-loop μ-loop
-south-requires c κs = c .before .before .pre
-
-north-requires : tie.Need-north-requires Inv-loop μ-loop
-north-requires c κs = c .before .before .before .pre
 
 loop-holds : tie.Need-loop-holds Inv-loop μ-loop
 unfolding table
@@ -48,9 +39,9 @@ upwind-start-requires c κs =
     let b = n .before .before .before .before in
     let s = c .before .before .loop .side in
     let small = elements-le (b .args .shape) (b .pre .admits) in (
-      subst (λ (l : List ℕ). getD l s 0 < 4096) (sym (behind-is n)) (omega (arith, small, behind-inside (b .args .shape) (b .args .e) (b .pre) s (omega arith))),
+      subst (λ (l : List ℕ). getD l s 0 < mostElements) (sym (behind-is n)) (omega (arith, small, behind-inside (b .args .shape) (b .args .e) (b .pre) s (omega arith))),
       (
-        subst (λ (l : List ℕ). getD l s 0 < 4096) (sym (ahead-is n)) (omega (arith, small, ahead-inside (b .args .shape) (b .args .e) (b .pre) s (omega arith))),
+        subst (λ (l : List ℕ). getD l s 0 < mostElements) (sym (ahead-is n)) (omega (arith, small, ahead-inside (b .args .shape) (b .args .e) (b .pre) s (omega arith))),
         last-lt s,
       ),
     )
@@ -73,4 +64,8 @@ returns c =
     (rw e at (c .before .loop .inv .2)) ∙ append-nil _ ∙ (λ i. table 4 (λ s. upwindStart (at (a .c .now) s) (getD (behind-is n i) s 0) (getD (ahead-is n i) s 0) (getD lasts s 0)))
 
 pub starts-spec : {M : Type 1} → statement M
-starts-spec = tie.close (tie.spec Inv-loop μ-loop west-requires east-requires south-requires north-requires loop-holds (λ c. search needs) (λ c. search needs) (λ c. search needs) (λ c. search needs) (λ c. search needs) (λ c. search needs) (λ c. search needs) (λ c. search needs) upwind-start-requires (λ c. search needs) (λ c. search needs) (λ c. search needs) (λ c. search needs) loop-again returns)
+starts-spec = tie.close (tie.spec
+    Inv-loop μ-loop (λ c κs. search needs) (λ c κs. search needs) (λ c κs. search needs) (λ c κs. search needs) loop-holds
+    (λ c. search needs) (λ c. search needs)
+    (λ c. search needs) (λ c. search needs) (λ c. search needs) (λ c. search needs) (λ c. search needs) (λ c. search needs)
+    upwind-start-requires (λ c. search needs) (λ c. search needs) (λ c. search needs) (λ c. search needs) loop-again returns)

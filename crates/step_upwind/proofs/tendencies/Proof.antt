@@ -6,6 +6,7 @@ use native.Mathlib.Omega.{arith}
 use Rattle.whole.specs.Bound.{AllWithin}
 use Rattle.whole.specs.Table.{table, at}
 use Rattle.rules.specs.Calls.{windAt}
+use Rattle.rules.specs.Sizes.{stageSize}
 use Rattle.step_tendency.specs.Line.{localTendency}
 use Rattle.step_upwind.specs.Upwind.{sideWinds, sideStart, upwindPlace, Reached}
 use Rattle.step_upwind.proofs.TendencyLaws.{gathered, reached, winds-small, picked-small}
@@ -14,9 +15,6 @@ use Rattle.step_upwind.proofs.tendencies.Tie as tie
 
 side-winds-requires : tie.Need-side-winds-requires
 side-winds-requires c κs = (c .pre .0, c .pre .1 .1 .1)
-
-starts-requires : tie.Need-starts-requires
-starts-requires c κs = c .before .before .pre .0
 
 -- where the upwind values begin, by the winds that were read
 begun : (c : tie.After-starts) → c .starts .result ≡ table 4 (sideStart (c .before .before .before .args .shape) (sideWinds (c .before .before .before .args .shape) (windAt (c .before .before .before .args .wind .now)) (c .before .before .before .args .e)) (c .before .before .before .args .e))
@@ -35,10 +33,10 @@ tendencies-requires : tie.Need-tendencies-requires
 tendencies-requires c κs =
     let b = c .before .before .before .before .before .before .before .before .before in
     let a = b .args in (
-      subst (AllWithin 1700000000) (sym (c .before .before .before .values .ensures)) (picked-small 9 (a .phi .now) (λ k. a .e * 9 + k) (b .pre .1 .1 .0)),
+      subst (AllWithin stageSize) (sym (c .before .before .before .values .ensures)) (picked-small 9 (a .phi .now) (λ k. a .e * 9 + k) (b .pre .1 .1 .0)),
       (
         subst (AllWithin 1024) (sym (c .before .before .before .before .before .before .before .before .side-winds .ensures)) (winds-small (a .shape) (a .wind .now) (a .e) (b .pre .0) (b .pre .1 .1 .1)),
-        subst (AllWithin 1700000000) (sym (c .before .before .before .before .upwind-values .ensures)) (picked-small 12 (a .phi .now) (upwindPlace (c .before .before .before .before .before .before .starts .result)) (b .pre .1 .1 .0)),
+        subst (AllWithin stageSize) (sym (c .before .before .before .before .upwind-values .ensures)) (picked-small 12 (a .phi .now) (upwindPlace (c .before .before .before .before .before .before .starts .result)) (b .pre .1 .1 .0)),
       ),
     )
 
@@ -53,4 +51,5 @@ returns c =
     ∙ gathered (a .shape) (windAt (a .wind .now)) (a .phi .now) (a .e) (b .pre .0)
 
 pub tendencies-spec : {M : Type 1} → statement M
-tendencies-spec = tie.close (tie.spec side-winds-requires starts-requires upwind-values-requires (λ c. search needs) values-requires tendencies-requires returns)
+tendencies-spec = tie.close (tie.spec
+    side-winds-requires (λ c κs. search needs) upwind-values-requires (λ c. search needs) values-requires tendencies-requires returns)

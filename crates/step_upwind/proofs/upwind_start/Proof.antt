@@ -11,16 +11,13 @@ use mir.Facts.{toZ-ofZ}
 use Rattle.whole.specs.Bound.{Within}
 use Rattle.whole.proofs.Sizes.{sizes, fits}
 use Rattle.step_upwind.specs.Upwind.{sign}
-use Rattle.step_upwind.proofs.Laws.{place-small, chosen-small, machinePlace, place-is, start-is}
+use Rattle.step_upwind.proofs.Laws.{mostPlaces, place-small, chosen-small, machinePlace, place-is, start-is}
 use Rattle.step_upwind.proofs.upwind_start.Statement.{statement}
 use Rattle.step_upwind.proofs.upwind_start.Tie as tie
 
 -- the sizes of the two places
-places-small : (c : tie.Start) → (Within 40960 (toZ w64 (c .args .behind * 9 + c .args .last))) × (Within 40960 (toZ w64 (c .args .ahead * 9)))
+places-small : (c : tie.Start) → (Within mostPlaces (toZ w64 (c .args .behind * 9 + c .args .last))) × (Within mostPlaces (toZ w64 (c .args .ahead * 9)))
 places-small c = (place-small (c .args .behind * 9 + c .args .last) (omega arith), place-small (c .args .ahead * 9) (omega arith))
-
-sub-result : tie.Need-sub-result
-sub-result c = let h = places-small (c .before) in fits (search sizes depth 20) tt
 
 mul-result : tie.Need-mul-result
 mul-result c = let h = places-small (c .before) in let s = c .sign .ensures in fits (search sizes depth 20) tt
@@ -34,10 +31,12 @@ made c = let a = c .before .args in place-is (a .c) (c .sign .result) (a .behind
 
 cast-result : tie.Need-cast-result
 cast-result c = let a = c .before .args in
-    rw (made c) (tt, record { fits = omega (arith, chosen-small (a .c) (a .behind * 9 + a .last) (a .ahead * 9) 40960 (omega arith) (omega arith)) })
+    rw (made c) (tt, record { fits = omega (arith, chosen-small (a .c) (a .behind * 9 + a .last) (a .ahead * 9) mostPlaces (omega arith) (omega arith)) })
 
 returns : tie.Need-returns
 returns c = let a = c .before .args in ap natAbs (made c) ∙ start-is (a .c) (a .behind) (a .ahead) (a .last)
 
 pub upwind-start-spec : {M : Type 1} → statement M
-upwind-start-spec = tie.close (tie.spec (λ c. search needs) (λ c. search needs) (λ c. search needs) (λ c. search needs) (λ c. search needs) (λ c κs. search needs) sub-result mul-result add-result cast-result returns)
+upwind-start-spec = tie.close (tie.spec
+    (λ c. search needs) (λ c. search needs) (λ c. search needs) (λ c. search needs) (λ c. search needs) (λ c κs. search needs)
+    (λ c. let h = places-small (c .before) in fits (search sizes depth 20) tt) mul-result add-result cast-result returns)

@@ -8,7 +8,7 @@ use mir.Facts.{toZ-ofZ}
 use Rattle.whole.specs.Table.{table, at}
 use Rattle.whole.proofs.TableLaws.{fill-next}
 use Rattle.step_upwind.specs.Upwind.{upwindPlace}
-use Rattle.step_upwind.proofs.Laws.{stride-is}
+use Rattle.step_upwind.proofs.Laws.{stride, stride-is}
 use Rattle.step_upwind.proofs.upwind_values.Statement.{statement}
 use Rattle.step_upwind.proofs.upwind_values.Tie as tie
 
@@ -23,20 +23,11 @@ unfolding table
 loop-holds c = (omega arith, refl, refl)
 
 -- what a turn reads is within the stage
-place-is : (c : tie.In-loop Inv-loop μ-loop) → getD (c .before .before .args .starts .now) (c .before .loop .m / 3) 0 + (3 - 2 * (c .before .loop .m / 6)) * (c .before .loop .m % 3) ≡ upwindPlace (c .before .before .args .starts .now) (c .before .loop .m)
+place-is : (c : tie.In-loop Inv-loop μ-loop) → getD (c .before .before .args .starts .now) (c .before .loop .m / 3) 0 + stride (c .before .loop .m) * (c .before .loop .m % 3) ≡ upwindPlace (c .before .before .args .starts .now) (c .before .loop .m)
 place-is c = let m = c .before .loop .m in ap (λ n. getD (c .before .before .args .starts .now) (m / 3) 0 + n * (m % 3)) (stride-is m (omega arith))
 
-reach : (c : tie.In-loop Inv-loop μ-loop) → getD (c .before .before .args .starts .now) (c .before .loop .m / 3) 0 + (3 - 2 * (c .before .loop .m / 6)) * (c .before .loop .m % 3) < length (c .before .before .args .phi .now)
+reach : (c : tie.In-loop Inv-loop μ-loop) → getD (c .before .before .args .starts .now) (c .before .loop .m / 3) 0 + stride (c .before .loop .m) * (c .before .loop .m % 3) < length (c .before .before .args .phi .now)
 reach c = subst (λ (n : ℕ). n < length (c .before .before .args .phi .now)) (sym (place-is c)) (c .before .before .pre .reach (c .before .loop .m) (omega arith))
-
-mul-place-3 : tie.Need-mul-place-3 Inv-loop μ-loop
-mul-place-3 c = record { fits = omega (arith, reach (c .before)) }
-
-add-place : tie.Need-add-place Inv-loop μ-loop
-add-place c = record { fits = omega (arith, reach (c .before)) }
-
-mul-u : tie.Need-mul-u Inv-loop μ-loop
-mul-u c = record { fits = omega (arith, reach (c .before)) }
 
 shared-slice-copy-out-u : tie.Need-shared-slice-copy-out-u Inv-loop μ-loop
 shared-slice-copy-out-u c = reach (c .before)
@@ -51,4 +42,8 @@ returns : tie.Need-returns Inv-loop μ-loop
 returns c = let e : c .before .loop .m ≡ 12 = omega arith in (rw e at (c .before .loop .inv .2)) ∙ append-nil _
 
 pub upwind-values-spec : {M : Type 1} → statement M
-upwind-values-spec = tie.close (tie.spec Inv-loop μ-loop loop-holds (λ c. search needs) (λ c. search needs) (λ c. search needs) (λ c. search needs) mul-place-3 add-place mul-u shared-slice-copy-out-u (λ c. search needs) (λ c. search needs) (λ c. search needs) (λ c. search needs) loop-again returns)
+upwind-values-spec = tie.close (tie.spec
+    Inv-loop μ-loop loop-holds (λ c. search needs) (λ c. search needs) (λ c. search needs) (λ c. search needs) (λ c. search needs)
+    (λ c. let h = reach (c .before) in search needs) (λ c. let h = reach (c .before) in search needs)
+    (λ c. let h = reach (c .before) in search needs) shared-slice-copy-out-u (λ c. search needs) (λ c. search needs) (λ c. search needs)
+    (λ c. search needs) loop-again returns)

@@ -1,153 +1,110 @@
-use mathlib.Core.Path.{_≡_, _∙_}
-use Prim.Native.Nat.{_≤_, _+_, _*_}
+-- The passes one after the other: what each asks follows from what work holds after the one before (`TracerLaws`).
+use mathlib.Core.Path.{_∙_}
+use Prim.Native.Nat.{_≤_}
 use borrow.Author.Needs.{needs}
 use native.Mathlib.Omega.{arith}
 use lib.ListN.{length}
-use Rattle.rules.specs.Field.{elements}
 use Rattle.rules.specs.Step.{tracerStep}
-use Rattle.rules.specs.Calls.{windAt}
-use Rattle.step_stages.proofs.StagesLaws.{Holds, holds-start, holds-next, ready, stages-small}
-use Rattle.step.proofs.TracerLaws.{number-small, within-limit, Fluxed, fluxed, lent-small, Weighed, weighed, all-amounts, reported, all-finished, all-closed}
+use Rattle.step_layout.specs.Sections.{workUsed}
+use Rattle.step_layout.proofs.Laws.{used-le}
+use Rattle.step.proofs.TracerLaws.{Given, Passed, stage-0, stage-next, before-stage, before-fluxes, Fluxed, fluxed, before-amounts, Weighed, weighed, before-limit, reported, before-finish, all-closed}
 use Rattle.step.proofs.tracer.step.Statement.{statement}
 use Rattle.step.proofs.tracer.step.Tie as tie
 
--- the sizes that every pass asks for
-wide : (c : tie.Start) → (length (c .args .part .now) ≡ elements (c .args .shape) * 10) × (64 * elements (c .args .shape) ≤ length (c .args .work .now)) × (elements (c .args .shape) + elements (c .args .shape) ≤ length (c .args .report .now))
-wide c = (c .pre .1 .0, c .pre .1 .1 .1 .1 .1, c .pre .1 .1 .1 .1 .0)
+given : (c : tie.Start) → Given (c .args .shape) (c .args .wind .now) (c .args .part .now)
+given c = record { admits = c .pre .0; winds = c .pre .1 .1 .1 .0; numbers = c .pre .1 .0; within-limit = c .pre .1 .1 .0 }
 
+used : (c : tie.Start) → workUsed (c .args .shape) ≤ length (c .args .work .now)
+used c = omega (arith, c .pre .1 .1 .1 .1 .1, used-le (c .args .shape))
+
+-- ---- the entry, seen from after each pass
+abbrev entry-0 : tie.After-start → tie.Start
+entry-0 c = c .before .before .before .before
+
+abbrev entry-1 : tie.After-advance → tie.Start
+entry-1 c = entry-0 (c .before .before .before)
+
+abbrev entry-2 : tie.After-advance2 → tie.Start
+entry-2 c = entry-1 (c .before .before .before)
+
+abbrev entry-3 : tie.After-advance3 → tie.Start
+entry-3 c = entry-2 (c .before .before .before)
+
+abbrev entry-4 : tie.After-fluxes → tie.Start
+entry-4 c = entry-3 (c .before .before .before)
+
+abbrev entry-5 : tie.After-amounts → tie.Start
+entry-5 c = entry-4 (c .before .before .before .before)
+
+-- ---- what work holds after each pass, and so what the next one asks
 start-requires : tie.Need-start-requires
-start-requires c κs = let b = c .before .before .before in (b .pre .0, (b .pre .1 .0, omega (arith, wide b)))
+start-requires c κs = let b = c .before .before .before in (b .pre .0, (b .pre .1 .0, used b))
 
--- after each pass, work holds the stages that were made
-holds-0 : (c : tie.After-start) → Holds (c .before .before .before .before .args .shape) (windAt (c .before .before .before .before .args .wind .now)) (c .before .before .before .before .args .part .now) 0 (c .start .last .0)
-holds-0 c =
-    let b = c .before .before .before .before in
-    holds-start (b .args .shape) (windAt (b .args .wind .now)) (b .args .part .now) (b .args .work .now) (c .start .last .0) (omega (arith, wide b)) (c .start .ensures)
+passed-0 : (c : tie.After-start) → Passed (given (entry-0 c)) 0 (c .start .last .0)
+passed-0 c = stage-0 (given (entry-0 c)) (used (entry-0 c)) (c .start .ensures)
 
 advance-requires : tie.Need-advance-requires
-advance-requires c κs =
-    let b = c .before .before .before .before .before .before in
-    let a = b .args in
-    (b .pre .0, (b .pre .1 .1 .1 .0, (omega arith, ready (a .shape) (windAt (a .wind .now)) (a .part .now) (b .pre .0) (b .pre .1 .1 .1 .0 .small) (number-small (a .shape) (a .wind .now) (a .part .now) (b .pre .0) (b .pre .1 .1 .1 .0) (b .pre .1 .0) (b .pre .1 .1 .0)) 0 (c .before .before .start .last .0) (omega arith) (holds-0 (c .before .before)))))
+advance-requires c κs = let d = c .before .before in let b = entry-0 d in (b .pre .0, (b .pre .1 .1 .1 .0, (omega arith, before-stage (given b) 0 (omega arith) (passed-0 d))))
 
-holds-1 : (c : tie.After-advance) → Holds (c .before .before .before .before .before .before .before .args .shape) (windAt (c .before .before .before .before .before .before .before .args .wind .now)) (c .before .before .before .before .before .before .before .args .part .now) 1 (c .advance .last .0)
-holds-1 c =
-    let b = c .before .before .before .before .before .before .before in
-    holds-next (b .args .shape) (windAt (b .args .wind .now)) (b .args .part .now) 0 (c .before .before .before .start .last .0) (omega arith) (holds-0 (c .before .before .before)) (b .pre .0) (c .advance .last .0) (c .advance .ensures)
+passed-1 : (c : tie.After-advance) → Passed (given (entry-1 c)) 1 (c .advance .last .0)
+passed-1 c = stage-next (given (entry-1 c)) 0 (omega arith) (passed-0 (c .before .before .before)) (c .advance .ensures)
 
 advance-requires-2 : tie.Need-advance-requires-2
-advance-requires-2 c κs =
-    let b = c .before .before .before .before .before .before .before .before .before in
-    let a = b .args in
-    (b .pre .0, (b .pre .1 .1 .1 .0, (omega arith, ready (a .shape) (windAt (a .wind .now)) (a .part .now) (b .pre .0) (b .pre .1 .1 .1 .0 .small) (number-small (a .shape) (a .wind .now) (a .part .now) (b .pre .0) (b .pre .1 .1 .1 .0) (b .pre .1 .0) (b .pre .1 .1 .0)) 1 (c .before .before .advance .last .0) (omega arith) (holds-1 (c .before .before)))))
+advance-requires-2 c κs = let d = c .before .before in let b = entry-1 d in (b .pre .0, (b .pre .1 .1 .1 .0, (omega arith, before-stage (given b) 1 (omega arith) (passed-1 d))))
 
-holds-2 : (c : tie.After-advance2) → Holds (c .before .before .before .before .before .before .before .before .before .before .args .shape) (windAt (c .before .before .before .before .before .before .before .before .before .before .args .wind .now)) (c .before .before .before .before .before .before .before .before .before .before .args .part .now) 2 (c .advance2 .last .0)
-holds-2 c =
-    let b = c .before .before .before .before .before .before .before .before .before .before in
-    holds-next (b .args .shape) (windAt (b .args .wind .now)) (b .args .part .now) 1 (c .before .before .before .advance .last .0) (omega arith) (holds-1 (c .before .before .before)) (b .pre .0) (c .advance2 .last .0) (c .advance2 .ensures)
+passed-2 : (c : tie.After-advance2) → Passed (given (entry-2 c)) 2 (c .advance2 .last .0)
+passed-2 c = stage-next (given (entry-2 c)) 1 (omega arith) (passed-1 (c .before .before .before)) (c .advance2 .ensures)
 
 advance-requires-3 : tie.Need-advance-requires-3
-advance-requires-3 c κs =
-    let b = c .before .before .before .before .before .before .before .before .before .before .before .before in
-    let a = b .args in
-    (b .pre .0, (b .pre .1 .1 .1 .0, (omega arith, ready (a .shape) (windAt (a .wind .now)) (a .part .now) (b .pre .0) (b .pre .1 .1 .1 .0 .small) (number-small (a .shape) (a .wind .now) (a .part .now) (b .pre .0) (b .pre .1 .1 .1 .0) (b .pre .1 .0) (b .pre .1 .1 .0)) 2 (c .before .before .advance2 .last .0) (omega arith) (holds-2 (c .before .before)))))
+advance-requires-3 c κs = let d = c .before .before in let b = entry-2 d in (b .pre .0, (b .pre .1 .1 .1 .0, (omega arith, before-stage (given b) 2 (omega arith) (passed-2 d))))
 
--- work is as long as it was
-long-3 : (c : tie.After-advance3) → length (c .advance3 .last .0) ≡ length (c .before .before .before .before .before .before .before .before .before .before .before .before .before .args .work .now)
-long-3 c = c .advance3 .ensures .long ∙ c .before .before .before .advance2 .ensures .long ∙ c .before .before .before .before .before .before .advance .ensures .long ∙ c .before .before .before .before .before .before .before .before .before .start .ensures .long
-
-holds-3 : (c : tie.After-advance3) → Holds (c .before .before .before .before .before .before .before .before .before .before .before .before .before .args .shape) (windAt (c .before .before .before .before .before .before .before .before .before .before .before .before .before .args .wind .now)) (c .before .before .before .before .before .before .before .before .before .before .before .before .before .args .part .now) 3 (c .advance3 .last .0)
-holds-3 c =
-    let b = c .before .before .before .before .before .before .before .before .before .before .before .before .before in
-    holds-next (b .args .shape) (windAt (b .args .wind .now)) (b .args .part .now) 2 (c .before .before .before .advance2 .last .0) (omega arith) (holds-2 (c .before .before .before)) (b .pre .0) (c .advance3 .last .0) (c .advance3 .ensures)
+passed-3 : (c : tie.After-advance3) → Passed (given (entry-3 c)) 3 (c .advance3 .last .0)
+passed-3 c = stage-next (given (entry-3 c)) 2 (omega arith) (passed-2 (c .before .before .before)) (c .advance3 .ensures)
 
 fluxes-requires : tie.Need-fluxes-requires
-fluxes-requires c κs =
-    let b = c .before .before .before .before .before .before .before .before .before .before .before .before .before .before .before in
-    let a = b .args in
-    let d = c .before .before in (
-      b .pre .0,
-      (
-        b .pre .1 .1 .1 .0,
-        (
-          record {
-            long = omega (arith, long-3 d, wide b);
-            small = stages-small (a .shape) (windAt (a .wind .now)) (a .part .now) (b .pre .0) (b .pre .1 .1 .1 .0 .small) (number-small (a .shape) (a .wind .now) (a .part .now) (b .pre .0) (b .pre .1 .1 .1 .0) (b .pre .1 .0) (b .pre .1 .1 .0)) 3 (d .advance3 .last .0) (omega arith) (holds-3 d);
-          },
-          omega (arith, long-3 d, wide b),
-        ),
-      ),
-    )
+fluxes-requires c κs = let d = c .before .before in let b = entry-3 d in (b .pre .1 .1 .1 .0, before-fluxes (given b) (passed-3 d))
 
-after-fluxes : (c : tie.After-fluxes) → Fluxed (c .before .before .before .before .before .before .before .before .before .before .before .before .before .before .before .before .args .shape) (c .before .before .before .before .before .before .before .before .before .before .before .before .before .before .before .before .args .wind .now) (c .before .before .before .before .before .before .before .before .before .before .before .before .before .before .before .before .args .part .now) (c .before .before .before .before .before .before .before .before .before .before .before .before .before .before .before .before .pre .0) (c .before .before .before .before .before .before .before .before .before .before .before .before .before .before .before .before .pre .1 .1 .1 .0) (c .before .before .before .before .before .before .before .before .before .before .before .before .before .before .before .before .pre .1 .0) (c .before .before .before .before .before .before .before .before .before .before .before .before .before .before .before .before .pre .1 .1 .0) (c .fluxes .last .0)
-after-fluxes c =
-    let b = c .before .before .before .before .before .before .before .before .before .before .before .before .before .before .before .before in
-    let a = b .args in
-    let d = c .before .before .before in
-    fluxed (a .shape) (a .wind .now) (a .part .now) (b .pre .0) (b .pre .1 .1 .1 .0) (b .pre .1 .0) (b .pre .1 .1 .0) (d .advance3 .last .0) (c .fluxes .last .0) (holds-3 d) (c .fluxes .ensures)
-
-long-4 : (c : tie.After-fluxes) → length (c .fluxes .last .0) ≡ length (c .before .before .before .before .before .before .before .before .before .before .before .before .before .before .before .before .args .work .now)
-long-4 c = c .fluxes .ensures .long ∙ long-3 (c .before .before .before)
+after-fluxes : (c : tie.After-fluxes) → Fluxed (given (entry-4 c)) (c .fluxes .last .0)
+after-fluxes c = fluxed (given (entry-4 c)) (passed-3 (c .before .before .before)) (c .fluxes .ensures)
 
 amounts-requires : tie.Need-amounts-requires
-amounts-requires c κs =
-    let b = c .before .before .before .before .before .before .before .before .before .before .before .before .before .before .before .before .before .before .before in
-    let a = b .args in
-    let d = c .before .before .before in (
-      b .pre .0,
-      (
-        b .pre .1 .0,
-        (
-          within-limit (a .shape) (a .wind .now) (a .part .now) (b .pre .0) (b .pre .1 .1 .1 .0) (b .pre .1 .0) (b .pre .1 .1 .0),
-          (
-            omega (arith, long-4 d, wide b),
-            lent-small (a .shape) (a .wind .now) (a .part .now) (b .pre .0) (b .pre .1 .1 .1 .0) (b .pre .1 .0) (b .pre .1 .1 .0) (d .fluxes .last .0) (after-fluxes d) (omega (arith, long-4 d, wide b)),
-          ),
-        ),
-      ),
-    )
+amounts-requires c κs = let d = c .before .before .before in before-amounts (given (entry-4 d)) (after-fluxes d)
 
-after-amounts : (c : tie.After-amounts) → Weighed (c .before .before .before .before .before .before .before .before .before .before .before .before .before .before .before .before .before .before .before .before .args .shape) (c .before .before .before .before .before .before .before .before .before .before .before .before .before .before .before .before .before .before .before .before .args .wind .now) (c .before .before .before .before .before .before .before .before .before .before .before .before .before .before .before .before .before .before .before .before .args .part .now) (c .before .before .before .before .before .before .before .before .before .before .before .before .before .before .before .before .before .before .before .before .pre .0) (c .before .before .before .before .before .before .before .before .before .before .before .before .before .before .before .before .before .before .before .before .pre .1 .1 .1 .0) (c .before .before .before .before .before .before .before .before .before .before .before .before .before .before .before .before .before .before .before .before .pre .1 .0) (c .before .before .before .before .before .before .before .before .before .before .before .before .before .before .before .before .before .before .before .before .pre .1 .1 .0) (c .amounts .last .0)
-after-amounts c =
-    let b = c .before .before .before .before .before .before .before .before .before .before .before .before .before .before .before .before .before .before .before .before in
-    let a = b .args in
-    let d = c .before .before .before .before in
-    weighed (a .shape) (a .wind .now) (a .part .now) (b .pre .0) (b .pre .1 .1 .1 .0) (b .pre .1 .0) (b .pre .1 .1 .0) (d .fluxes .last .0) (c .amounts .last .0) (after-fluxes d) (c .amounts .ensures)
-
-long-5 : (c : tie.After-amounts) → length (c .amounts .last .0) ≡ length (c .before .before .before .before .before .before .before .before .before .before .before .before .before .before .before .before .before .before .before .before .args .work .now)
-long-5 c = c .amounts .ensures .long ∙ long-4 (c .before .before .before .before)
+after-amounts : (c : tie.After-amounts) → Weighed (given (entry-5 c)) (c .amounts .last .0)
+after-amounts c = weighed (given (entry-5 c)) (after-fluxes (c .before .before .before .before)) (c .amounts .ensures)
 
 limit-requires : tie.Need-limit-requires
-limit-requires c κs =
-    let b = c .before .before .before .before .before .before .before .before .before .before .before .before .before .before .before .before .before .before .before .before .before .before .before in
-    let a = b .args in
-    let d = c .before .before .before in
-    (b .pre .0, (all-amounts (a .shape) (a .wind .now) (a .part .now) (b .pre .0) (b .pre .1 .1 .1 .0) (b .pre .1 .0) (b .pre .1 .1 .0) (d .amounts .last .0) (after-amounts d) (omega (arith, long-5 d, wide b)), wide b .2))
+limit-requires c κs = let d = c .before .before .before in let b = entry-5 d in (before-limit (given b) (after-amounts d), b .pre .1 .1 .1 .1 .0)
 
 finish-requires : tie.Need-finish-requires
 finish-requires c κs =
-    let b = c .before .before .before .before .before .before .before .before .before .before .before .before .before .before .before .before .before .before .before .before .before .before .before .before .before .before .before .before in
-    let a = b .args in
-    let d = c .before .before .before .before .before .before .before .before in
     let r = c .before .before .before .before in
-    (b .pre .0, (b .pre .1 .0, all-finished (a .shape) (a .wind .now) (a .part .now) (b .pre .0) (b .pre .1 .1 .1 .0) (b .pre .1 .0) (b .pre .1 .1 .0) (d .amounts .last .0) (after-amounts d) (a .report .now) (r .limit .last .1 .0) (wide b .2) (r .limit .ensures) (omega (arith, long-5 d, wide b))))
+    let d = r .before .before .before .before in
+    let b = entry-5 d in
+    (b .pre .0, (b .pre .1 .0, before-finish (given b) (after-amounts d) (b .pre .1 .1 .1 .1 .0) (r .limit .ensures)))
 
 same-length-2 : tie.Need-same-length-2
 same-length-2 c = c .before .before .before .before .before .before .before .limit .ensures .long
 
 same-length-3 : tie.Need-same-length-3
-same-length-3 c = long-5 (c .before .before .before .before .before .before .before .before .before .before .before)
+same-length-3 c =
+    let a5 = c .before .before .before .before .before .before .before .before .before .before .before in
+    let a4 = a5 .before .before .before .before in
+    let a3 = a4 .before .before .before in
+    let a2 = a3 .before .before .before in
+    let a1 = a2 .before .before .before in
+    a5 .amounts .ensures .long ∙ a4 .fluxes .ensures .long ∙ a3 .advance3 .ensures .long ∙ a2 .advance2 .ensures .long ∙ a1 .advance .ensures .long ∙ a1 .before .before .before .start .ensures .long
 
 returns : tie.Need-returns
 unfolding tracerStep
 returns c =
-    let b = c .before .before .before .before .before .before .before .before .before .before .before .before .before .before .before .before .before .before .before .before .before .before .before .before .before .before .before .before .before .before .before in
-    let a = b .args in
-    let d = c .before .before .before .before .before .before .before .before .before .before .before in
-    let r = c .before .before .before .before .before .before .before in (
-      c .before .before .finish .ensures ∙ all-closed (a .shape) (a .wind .now) (a .part .now) (b .pre .0) (b .pre .1 .1 .1 .0) (b .pre .1 .0) (b .pre .1 .1 .0) (d .amounts .last .0) (after-amounts d) (a .report .now) (r .limit .last .1 .0) (wide b .2) (r .limit .ensures),
-      reported (a .shape) (a .wind .now) (a .part .now) (b .pre .0) (b .pre .1 .1 .1 .0) (b .pre .1 .0) (b .pre .1 .1 .0) (d .amounts .last .0) (after-amounts d) (a .report .now) (r .limit .last .1 .0) (wide b .2) (r .limit .ensures),
-    )
+    let r = c .before .before .before .before .before .before .before in
+    let d = r .before .before .before .before in
+    let b = entry-5 d in
+    let wide = b .pre .1 .1 .1 .1 .0 in
+    (c .before .before .finish .ensures ∙ all-closed (given b) (after-amounts d) wide (r .limit .ensures), reported (given b) (after-amounts d) wide (r .limit .ensures))
 
 pub step-spec : {M : Type 1} → statement M
-step-spec = tie.close (tie.spec start-requires advance-requires advance-requires-2 advance-requires-3 fluxes-requires amounts-requires limit-requires finish-requires (λ c. search needs) same-length-2 same-length-3 returns)
+step-spec = tie.close (tie.spec
+    start-requires advance-requires advance-requires-2 advance-requires-3 fluxes-requires amounts-requires limit-requires finish-requires
+    (λ c. search needs) same-length-2 same-length-3 returns)

@@ -1,0 +1,2 @@
+-- Where the numbers of a step stand in work.
+pub mod Sections
