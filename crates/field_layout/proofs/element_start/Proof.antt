@@ -6,15 +6,19 @@ use Rattle.field_layout.proofs.PlaceLaws.{index-small, element-room, st
 use Rattle.field_layout.proofs.element_start.Statement.{statement}
 use Rattle.field_layout.proofs.element_start.Tie as tie
 
+-- places of the code, seen from later ones
+abbrev entry-from-struct-known : tie.After-struct-known → tie.Start
+entry-from-struct-known c = c .before .before
+
 add-result-2 : tie.Need-add-result-2
 add-result-2 c =
-    let a = c .before .before .args in
-    let h = c .before .before .pre in
+    let a = entry-from-struct-known c .args in
+    let h = entry-from-struct-known c .pre in
     record { fits = omega (arith, c .before .tracer-start .ensures, element-room (a .shape) (a .tracer) (a .i) (a .j) h, start-is (a .shape) (a .tracer) (a .i) (a .j), field-is (a .shape), field-le (a .shape) (h .admits)) }
 
 returns : tie.Need-returns
 returns c =
-    let a = c .before .before .args in
+    let a = entry-from-struct-known c .args in
     ap (λ n. n + element (a .shape) (a .i) (a .j) * 10) (c .before .tracer-start .ensures) ∙ sym (start-is (a .shape) (a .tracer) (a .i) (a .j))
 
 pub element-start-spec : {M : Type 1} → statement M

@@ -35,12 +35,22 @@ Inv-rows part nx ny sum₀ sound₀ start₀ j₀ sum sound start j = BetweenEle
 abbrev μ-rows : tie.MeasureT-rows
 μ-rows part nx ny sum₀ sound₀ start₀ j₀ sum sound start j = ny - j
 
+-- places of the code, seen from later ones
+abbrev entry-from-at-rows : tie.At-rows Inv-numbers μ-numbers Inv-elements μ-elements Inv-rows μ-rows → tie.Start Inv-numbers μ-numbers Inv-elements μ-elements Inv-rows μ-rows
+entry-from-at-rows c = c .before .before
+
+abbrev at-elements-from-number-weight : tie.After-number-weight Inv-numbers μ-numbers Inv-elements μ-elements Inv-rows μ-rows → tie.At-elements Inv-numbers μ-numbers Inv-elements μ-elements Inv-rows μ-rows
+at-elements-from-number-weight c = c .before .before .before .before .before
+
+abbrev at-numbers-from-number-weight : tie.After-number-weight Inv-numbers μ-numbers Inv-elements μ-elements Inv-rows μ-rows → tie.At-numbers Inv-numbers μ-numbers Inv-elements μ-elements Inv-rows μ-rows
+at-numbers-from-number-weight c = c .before .before .before
+
 -- the element of a turn is there, with its numbers
 room : (c : tie.In-elements Inv-numbers μ-numbers Inv-elements μ-elements Inv-rows μ-rows)
     → (c .before .elements .start + 10 ≤ length (c .before .before .before .before .before .args .part .now)) × (c .before .elements .start + 10 ≤ 10 * mostElements)
 room c =
     let b = c .before .before .before in
-    let s = b .before .before in
+    let s = entry-from-at-rows b in
     let g = s .args .shape in
     let r = numbers-room g (c .before .elements .inv .0) (s .pre .0) (element-lt g (c .before .elements .i) (b .rows .j) (c .elements-test .taken) (c .before .before .rows-test .taken)) in
     (omega (arith, r .0, s .pre .1, elements-within g), r .1)
@@ -56,10 +66,10 @@ cast-x c = omega (arith, c .shared-slice-known2 .given (c .before .before .befor
 
 -- what a turn adds
 added : (c : tie.After-number-weight Inv-numbers μ-numbers Inv-elements μ-elements Inv-rows μ-rows)
-    → c .number-weight .result * getD (c .before .before .before .before .before .before .before .before .before .args .part .now) (c .before .before .before .before .before .elements .start + c .before .before .before .numbers .v) 0 ≤ 16 * 2 ^ 32
+    → c .number-weight .result * getD (c .before .before .before .before .before .before .before .before .before .args .part .now) (at-elements-from-number-weight c .elements .start + at-numbers-from-number-weight c .numbers .v) 0 ≤ 16 * 2 ^ 32
 added c =
-    let v = c .before .before .before .numbers .v in
-    weighs-small v (c .number-weight .ensures) (c .before .shared-slice-known2 .given (c .before .before .before .before .before .elements .start + v))
+    let v = at-numbers-from-number-weight c .numbers .v in
+    weighs-small v (c .number-weight .ensures) (c .before .shared-slice-known2 .given (at-elements-from-number-weight c .elements .start + v))
 
 numbers-again : tie.Need-numbers-again Inv-numbers μ-numbers Inv-elements μ-elements Inv-rows μ-rows
 numbers-again c =
@@ -72,7 +82,7 @@ elements-again c = (at-element (omega arith) (element-ends (c .before .before .b
 rows-again : tie.Need-rows-again Inv-numbers μ-numbers Inv-elements μ-elements Inv-rows μ-rows
 rows-again c =
     let b = c .before .before .before in
-    (at-element (omega (arith, row-more (b .before .before .args .shape .nx) (b .rows .j))) (c .before .elements .inv .0), omega arith)
+    (at-element (omega (arith, row-more (entry-from-at-rows b .args .shape .nx) (b .rows .j))) (c .before .elements .inv .0), omega arith)
 
 -- what the two ways out of the search say: no row is left, or a number is a break
 outcome : (c : tie.Left-rows Inv-numbers μ-numbers Inv-elements μ-elements Inv-rows μ-rows)

@@ -18,9 +18,16 @@ abbrev μ-loop : tie.MeasureT-loop
 shared-slice-copy-out-wind-in-range : tie.Need-shared-slice-copy-out-wind-in-range Inv-loop μ-loop
 shared-slice-copy-out-wind-in-range c = omega (arith, c .before .before .faces .ensures, c .before .before .before .pre .1)
 
+-- places of the code, seen from later ones
+abbrev entry-from-wind-in-range : tie.After-wind-in-range Inv-loop μ-loop → tie.Start Inv-loop μ-loop
+entry-from-wind-in-range c = c .before .before .before .before .before
+
+abbrev at-loop-from-wind-in-range : tie.After-wind-in-range Inv-loop μ-loop → tie.At-loop Inv-loop μ-loop
+at-loop-from-wind-in-range c = c .before .before .before
+
 -- the test of a turn is of the stored wind
-tested : (c : tie.After-wind-in-range Inv-loop μ-loop) → c .wind-in-range .result ≡ windInRange (windAt (c .before .before .before .before .before .args .wind .now) (c .before .before .before .loop .f))
-tested c = c .wind-in-range .ensures ∙ ap windInRange (toZ-ofZ {w = w16} {z = windAt (c .before .before .before .before .before .args .wind .now) (c .before .before .before .loop .f)} (record { sfits = c .before .wind-in-range-arg .given }))
+tested : (c : tie.After-wind-in-range Inv-loop μ-loop) → c .wind-in-range .result ≡ windInRange (windAt (entry-from-wind-in-range c .args .wind .now) (at-loop-from-wind-in-range c .loop .f))
+tested c = c .wind-in-range .ensures ∙ ap windInRange (toZ-ofZ {w = w16} {z = windAt (entry-from-wind-in-range c .args .wind .now) (at-loop-from-wind-in-range c .loop .f)} (record { sfits = c .before .wind-in-range-arg .given }))
 
 returns : tie.Need-returns Inv-loop μ-loop
 unfolding windSound

@@ -60,44 +60,54 @@ cast-part c =
     let b = c .before .before .before .before .before .before in
     record { fits = omega (arith, stored c, newValue-le (b .args .psi .now) (toZ w64 (ofZ w64 (b .args .shift))) (b .args .target) (c .before .before .before .loop .k) (omega arith), b .pre .1 .1 .1) }
 
+-- places of the code, seen from later ones
+abbrev entry-from-loop : tie.After-loop Inv-loop μ-loop → tie.Start Inv-loop μ-loop
+entry-from-loop c = c .before .before .before .before
+
+abbrev entry-from-node-weight : tie.After-node-weight Inv-loop μ-loop → tie.Start Inv-loop μ-loop
+entry-from-node-weight c = c .before .before .before .before .before .before .before
+
+abbrev at-loop-from-node-weight : tie.After-node-weight Inv-loop μ-loop → tie.At-loop Inv-loop μ-loop
+at-loop-from-node-weight c = c .before .before .before .before
+
 -- the sum with it is at most the target
 next : (c : tie.After-node-weight Inv-loop μ-loop) →
-    (c .before .before .before .before .loop .sum + c .node-weight .result * c .before .rescale .result ≡ weightedTo (made (c .before .before .before .before .before .before .before)) (c .before .before .before .before .loop .k + 1))
-    × (c .before .before .before .before .loop .sum + c .node-weight .result * c .before .rescale .result ≤ c .before .before .before .before .before .before .before .args .target)
+    (at-loop-from-node-weight c .loop .sum + c .node-weight .result * c .before .rescale .result ≡ weightedTo (made (entry-from-node-weight c)) (at-loop-from-node-weight c .loop .k + 1))
+    × (at-loop-from-node-weight c .loop .sum + c .node-weight .result * c .before .rescale .result ≤ entry-from-node-weight c .args .target)
 next c =
-    let b = c .before .before .before .before .before .before .before in
-    let l = c .before .before .before .before .loop in
+    let b = entry-from-node-weight c in
+    let l = at-loop-from-node-weight c .loop in
     let e = weighted-next (made b) (l .k) (c .node-weight .result) (c .before .rescale .result) (l .sum) (c .node-weight .ensures) (stored (c .before)) (l .inv .2) in
     (e, omega (arith, e, made-le b (l .k + 1) (omega arith)))
 
 mul-sum : tie.Need-mul-sum Inv-loop μ-loop
-mul-sum c = record { fits = omega (arith, next c, c .before .before .before .before .before .before .before .pre .1 .1 .1) }
+mul-sum c = record { fits = omega (arith, next c, entry-from-node-weight c .pre .1 .1 .1) }
 
 add-sum : tie.Need-add-sum Inv-loop μ-loop
-add-sum c = record { fits = omega (arith, next c, c .before .before .before .before .before .before .before .pre .1 .1 .1) }
+add-sum c = record { fits = omega (arith, next c, entry-from-node-weight c .pre .1 .1 .1) }
 
 loop-again : tie.Need-loop-again Inv-loop μ-loop
 loop-again c =
-    let b = c .before .before .before .before .before .before .before in
-    let l = c .before .before .before .before .loop in
+    let b = entry-from-node-weight c in
+    let l = at-loop-from-node-weight c .loop in
     (fill-next (l .k) (made b) (b .args .part .now) (l .part) _ (l .inv .0) (omega (arith, b .pre .0)) (stored (c .before)), rw length-set (l .inv .1), next c .0, omega arith)
 
 -- after the loop the sum is that of all nine
-ended : (c : tie.After-loop Inv-loop μ-loop) → (c .before .loop .k ≡ 9) × (c .before .loop .sum ≡ weighted quadratic (made (c .before .before .before .before))) × (c .before .loop .sum ≤ c .before .before .before .before .args .target)
+ended : (c : tie.After-loop Inv-loop μ-loop) → (c .before .loop .k ≡ 9) × (c .before .loop .sum ≡ weighted quadratic (made (entry-from-loop c))) × (c .before .loop .sum ≤ entry-from-loop c .args .target)
 ended c =
-    let b = c .before .before .before .before in
+    let b = entry-from-loop c in
     let e : c .before .loop .k ≡ 9 = omega arith in
     let m = (rw e at (c .before .loop .inv .2)) ∙ weightedTo-all (made b) in
     (e, m, omega (arith, c .before .loop .inv .2, made-le b (c .before .loop .k) (omega arith)))
 
 cast-part-2 : tie.Need-cast-part-2 Inv-loop μ-loop
-cast-part-2 c = record { fits = omega (arith, ended c, c .before .before .before .before .pre .1 .1 .1) }
+cast-part-2 c = record { fits = omega (arith, ended c, entry-from-loop c .pre .1 .1 .1) }
 
 slice-write-part-2 : tie.Need-slice-write-part-2 Inv-loop μ-loop
 slice-write-part-2 c = omega (arith, c .before .loop .inv .1)
 
 same-length : tie.Need-same-length Inv-loop μ-loop
-same-length c = rw length-set (c .before .loop .inv .1 ∙ sym (c .before .before .before .before .pre .0))
+same-length c = rw length-set (c .before .loop .inv .1 ∙ sym (entry-from-loop c .pre .0))
 
 returns : tie.Need-returns Inv-loop μ-loop
 unfolding closedUnlevelled closingRemainder quadratic

@@ -35,21 +35,25 @@ returns c =
     let h = b .pre .1 .1 .small in
     (sym (positive-below (shifted (b .args .psi .now) (b .args .shift) (b .args .k)) (less-yes (c .if1 .taken) (exact-test (search exacts-wide depth 20) tt))), omega arith)
 
+-- places of the code, seen from later ones
+abbrev entry-from-else1 : tie.Else1 → tie.Start
+entry-from-else1 c = c .before .before
+
 -- it is not below 0
-above : (c : tie.Else1) → shifted (c .before .before .args .psi .now) (c .before .before .args .shift) (c .before .before .args .k) ≡ pos (cutValue (c .before .before .args .psi .now) (c .before .before .args .shift) (c .before .before .args .k))
+above : (c : tie.Else1) → shifted (entry-from-else1 c .args .psi .now) (entry-from-else1 c .args .shift) (entry-from-else1 c .args .k) ≡ pos (cutValue (entry-from-else1 c .args .psi .now) (entry-from-else1 c .args .shift) (entry-from-else1 c .args .k))
 unfolding truncated
 above c =
-    let b = c .before .before in
+    let b = entry-from-else1 c in
     let v = value b in
     let h = b .pre .1 .1 .small in
     above-positive _ (less-no (c .if1 .left) (exact-test (search exacts-wide depth 20) tt))
 
 cast-result : tie.Need-cast-result
-cast-result c = let b = c .before .before in rw (sum-is b ∙ above c) (tt, record { fits = omega (arith, cutValue-le (b .args .psi .now) (b .args .shift) (b .pre .0) (b .pre .1 .1) (b .args .k) (b .pre .1 .0)) })
+cast-result c = let b = entry-from-else1 c in rw (sum-is b ∙ above c) (tt, record { fits = omega (arith, cutValue-le (b .args .psi .now) (b .args .shift) (b .pre .0) (b .pre .1 .1) (b .args .k) (b .pre .1 .0)) })
 
 returns-2 : tie.Need-returns-2
 returns-2 c =
-    let b = c .before .before in
+    let b = entry-from-else1 c in
     let e = ap natAbs (sum-is b ∙ above c) in
     (e, omega (arith, e, cutValue-le (b .args .psi .now) (b .args .shift) (b .pre .0) (b .pre .1 .1) (b .args .k) (b .pre .1 .0)))
 

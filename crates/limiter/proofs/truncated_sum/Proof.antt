@@ -30,12 +30,19 @@ shift-small c = record { small = within-back w64 (c .args .shift) (c .pre .1 .sm
 truncate-requires : tie.Need-truncate-requires Inv-loop μ-loop
 truncate-requires c κs = let b = c .before .before in (b .pre .0, (omega arith, shift-small b))
 
+-- places of the code, seen from later ones
+abbrev entry-from-node-weight : tie.After-node-weight Inv-loop μ-loop → tie.Start Inv-loop μ-loop
+entry-from-node-weight c = c .before .before .before .before
+
+abbrev at-loop-from-node-weight : tie.After-node-weight Inv-loop μ-loop → tie.At-loop Inv-loop μ-loop
+at-loop-from-node-weight c = c .before .before .before
+
 -- one term more, and what the sum then is at most
-next : (c : tie.After-node-weight Inv-loop μ-loop) → (c .before .before .before .loop .sum + c .node-weight .result * c .before .truncate .result ≡ weightedTo (cutValue (c .before .before .before .before .args .psi .now) (toZ w64 (ofZ w64 (c .before .before .before .before .args .shift)))) (c .before .before .before .loop .k + 1))
-    × (c .before .before .before .loop .sum + c .node-weight .result * c .before .truncate .result ≤ 36 * levelledSize)
+next : (c : tie.After-node-weight Inv-loop μ-loop) → (at-loop-from-node-weight c .loop .sum + c .node-weight .result * c .before .truncate .result ≡ weightedTo (cutValue (entry-from-node-weight c .args .psi .now) (toZ w64 (ofZ w64 (entry-from-node-weight c .args .shift)))) (at-loop-from-node-weight c .loop .k + 1))
+    × (at-loop-from-node-weight c .loop .sum + c .node-weight .result * c .before .truncate .result ≤ 36 * levelledSize)
 next c =
-    let b = c .before .before .before .before in
-    let l = c .before .before .before .loop in
+    let b = entry-from-node-weight c in
+    let l = at-loop-from-node-weight c .loop in
     let v = cutValue (b .args .psi .now) (toZ w64 (ofZ w64 (b .args .shift))) in
     let e = weighted-next v (l .k) (c .node-weight .result) (c .before .truncate .result) (l .sum) (c .node-weight .ensures) (c .before .truncate .ensures .0) (l .inv .1) in
     (e, omega (arith, e, cutSum-le (b .args .psi .now) (toZ w64 (ofZ w64 (b .args .shift))) (b .pre .0) (shift-small b) (l .k + 1) (omega arith)))

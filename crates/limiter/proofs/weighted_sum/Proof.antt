@@ -24,9 +24,16 @@ loop-holds : tie.Need-loop-holds Inv-loop μ-loop
 unfolding sumℤ
 loop-holds c = (omega arith, record { same = refl; bound = record { within = omega arith } })
 
+-- places of the code, seen from later ones
+abbrev entry-from-sum : tie.After-sum Inv-loop μ-loop → tie.Start Inv-loop μ-loop
+entry-from-sum c = c .before .before .before .before
+
+abbrev at-loop-from-sum : tie.After-sum Inv-loop μ-loop → tie.At-loop Inv-loop μ-loop
+at-loop-from-sum c = c .before .before .before
+
 -- the value that a turn reads
-value : (c : tie.After-sum Inv-loop μ-loop) → Within tentativeSize (at (c .before .before .before .before .args .psi .now) (c .before .before .before .loop .k))
-value c = c .before .before .before .before .pre .small (c .before .before .before .loop .k) (omega arith)
+value : (c : tie.After-sum Inv-loop μ-loop) → Within tentativeSize (at (entry-from-sum c .args .psi .now) (at-loop-from-sum c .loop .k))
+value c = entry-from-sum c .pre .small (at-loop-from-sum c .loop .k) (omega arith)
 
 mul-sum-2 : tie.Need-mul-sum-2 Inv-loop μ-loop
 mul-sum-2 c = let h = value c in let w = c .before .signed-weight .ensures in fits (search sizes depth 20) tt
@@ -35,17 +42,17 @@ add-sum : tie.Need-add-sum Inv-loop μ-loop
 add-sum c =
     let h = value c in
     let w = c .before .signed-weight .ensures in
-    let s = c .before .before .before .loop .inv .1 in
+    let s = at-loop-from-sum c .loop .inv .1 in
     fits (search sizes depth 20) tt
 
 loop-again : tie.Need-loop-again Inv-loop μ-loop
 loop-again c =
     let h = value c in
     let w = c .before .signed-weight .ensures in
-    let s = c .before .before .before .loop .inv .1 in
-    let b = c .before .before .before .before in
+    let s = at-loop-from-sum c .loop .inv .1 in
+    let b = entry-from-sum c in
     let l = b .args .psi .now in
-    let k = c .before .before .before .loop .k in
+    let k = at-loop-from-sum c .loop .k in
     (omega arith, record { same = exact (search exacts depth 20) tt ∙ sym (sumℤ-more k (term l)); bound = terms-within l _ (b .pre) (omega arith) })
 
 returns : tie.Need-returns Inv-loop μ-loop

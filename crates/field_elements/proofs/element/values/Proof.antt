@@ -16,12 +16,16 @@ Inv-loop part psi₀ k₀ psi k = Filled (λ i. pos (getD part i 0)) psi₀ 9 k 
 abbrev μ-loop : tie.MeasureT-loop
 μ-loop part psi₀ k₀ psi k = 9 - k
 
+-- places of the code, seen from later ones
+abbrev at-loop-from-shared-slice-known : tie.After-shared-slice-known Inv-loop μ-loop → tie.At-loop Inv-loop μ-loop
+at-loop-from-shared-slice-known c = c .before .before
+
 cast-psi : tie.Need-cast-psi Inv-loop μ-loop
-cast-psi c = record { sfits = omega (arith, c .shared-slice-known .given (c .before .before .loop .k)) }
+cast-psi c = record { sfits = omega (arith, c .shared-slice-known .given (at-loop-from-shared-slice-known c .loop .k)) }
 
 loop-again : tie.Need-loop-again Inv-loop μ-loop
 loop-again c =
-    let l = c .before .before .loop in
+    let l = at-loop-from-shared-slice-known c .loop in
     filled-next (l .inv) (omega arith) (toZ-pos w64 (omega (arith, c .shared-slice-known .given (l .k))))
 
 pub values-spec : {M : Type 1} → statement M

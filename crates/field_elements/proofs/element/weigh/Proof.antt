@@ -21,18 +21,22 @@ loop-holds : tie.Need-loop-holds Inv-loop μ-loop
 unfolding weighed sum
 loop-holds c = (omega arith, refl, omega arith)
 
+-- places of the code, seen from later ones
+abbrev at-loop-from-shared-slice-known2 : tie.After-shared-slice-known2 Inv-loop μ-loop → tie.At-loop Inv-loop μ-loop
+at-loop-from-shared-slice-known2 c = c .before .before .before
+
 -- what a turn adds
-added : (c : tie.After-shared-slice-known2 Inv-loop μ-loop) → c .before .number-weight .result * getD (c .before .before .before .before .before .args .numbers .now) (c .before .before .before .loop .v) 0 ≤ 16 * 2 ^ 32
-added c = let v = c .before .before .before .loop .v in weighs-small v (c .before .number-weight .ensures) (c .shared-slice-known2 .given v)
+added : (c : tie.After-shared-slice-known2 Inv-loop μ-loop) → c .before .number-weight .result * getD (c .before .before .before .before .before .args .numbers .now) (at-loop-from-shared-slice-known2 c .loop .v) 0 ≤ 16 * 2 ^ 32
+added c = let v = at-loop-from-shared-slice-known2 c .loop .v in weighs-small v (c .before .number-weight .ensures) (c .shared-slice-known2 .given v)
 
 cast-sum : tie.Need-cast-sum Inv-loop μ-loop
-cast-sum c = record { fits = omega (arith, c .shared-slice-known2 .given (c .before .before .before .loop .v)) }
+cast-sum c = record { fits = omega (arith, c .shared-slice-known2 .given (at-loop-from-shared-slice-known2 c .loop .v)) }
 
 mul-sum-2 : tie.Need-mul-sum-2 Inv-loop μ-loop
 mul-sum-2 c = record { fits = omega (arith, added c) }
 
 add-sum : tie.Need-add-sum Inv-loop μ-loop
-add-sum c = record { fits = omega (arith, added c, c .before .before .before .loop .inv .2) }
+add-sum c = record { fits = omega (arith, added c, at-loop-from-shared-slice-known2 c .loop .inv .2) }
 
 loop-again : tie.Need-loop-again Inv-loop μ-loop
 loop-again c =

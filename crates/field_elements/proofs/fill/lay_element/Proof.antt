@@ -24,8 +24,12 @@ loop-holds c = filled-none (omega (arith, c .pre .0))
 loop-again : tie.Need-loop-again Inv-loop μ-loop
 loop-again c = filled-next (c .before .before .loop .inv) (omega arith) refl
 
+-- places of the code, seen from later ones
+abbrev entry-from-loop : tie.After-loop Inv-loop μ-loop → tie.Start Inv-loop μ-loop
+entry-from-loop c = c .before .before
+
 slice-write-part-2 : tie.Need-slice-write-part-2 Inv-loop μ-loop
-slice-write-part-2 c = omega (arith, c .before .loop .inv .long, c .before .before .pre .0)
+slice-write-part-2 c = omega (arith, c .before .loop .inv .long, entry-from-loop c .pre .0)
 
 same-length : tie.Need-same-length Inv-loop μ-loop
 same-length c = rw length-set (c .before .loop .inv .long)
@@ -33,8 +37,8 @@ same-length c = rw length-set (c .before .loop .inv .long)
 returns : tie.Need-returns Inv-loop μ-loop
 unfolding loadedElement loadedValue quadratic
 returns c =
-    let n = c .before .before .args .numbers .now in
-    filled-last (c .before .loop .inv) (omega arith) 0 (c .before .before .pre .0)
+    let n = entry-from-loop c .args .numbers .now in
+    filled-last (c .before .loop .inv) (omega arith) 0 (entry-from-loop c .pre .0)
     ∙ ap (λ t. t ++ (0 ∷ [])) (table-cong 9 (λ i. getD n i 0) (λ i. getD n (0 * 9 + i) 0) (λ i _. ap (λ m. getD n m 0) (sym (zero-add i))))
 
 pub lay-element-spec : {M : Type 1} → statement M

@@ -47,24 +47,40 @@ Inv-rows section nx ny sum₀ sound₀ start₀ j₀ sum sound start j = Between
 abbrev μ-rows : tie.MeasureT-rows
 μ-rows section nx ny sum₀ sound₀ start₀ j₀ sum sound start j = ny - j
 
+-- places of the code, seen from later ones
+abbrev entry-from-at-rows : tie.At-rows Inv-numbers μ-numbers Inv-elements μ-elements Inv-rows μ-rows → tie.Start Inv-numbers μ-numbers Inv-elements μ-elements Inv-rows μ-rows
+entry-from-at-rows c = c .before .before
+
+abbrev entry-from-in-elements : tie.In-elements Inv-numbers μ-numbers Inv-elements μ-elements Inv-rows μ-rows → tie.Start Inv-numbers μ-numbers Inv-elements μ-elements Inv-rows μ-rows
+entry-from-in-elements c = entry-from-at-rows (c .before .before .before)
+
+abbrev entry-from-number32 : tie.After-number32 Inv-numbers μ-numbers Inv-elements μ-elements Inv-rows μ-rows → tie.Start Inv-numbers μ-numbers Inv-elements μ-elements Inv-rows μ-rows
+entry-from-number32 c = entry-from-in-elements (c .before .before .before)
+
+abbrev in-elements-from-in-numbers : tie.In-numbers Inv-numbers μ-numbers Inv-elements μ-elements Inv-rows μ-rows → tie.In-elements Inv-numbers μ-numbers Inv-elements μ-elements Inv-rows μ-rows
+in-elements-from-in-numbers c = c .before .before
+
+abbrev at-numbers-from-number32 : tie.After-number32 Inv-numbers μ-numbers Inv-elements μ-elements Inv-rows μ-rows → tie.At-numbers Inv-numbers μ-numbers Inv-elements μ-elements Inv-rows μ-rows
+at-numbers-from-number32 c = c .before .before
+
 -- the element of a turn is there, with its numbers
 room : (c : tie.In-elements Inv-numbers μ-numbers Inv-elements μ-elements Inv-rows μ-rows)
-    → (c .before .elements .start + 10 ≤ partLength quadratic (c .before .before .before .before .before .args .shape)) × (c .before .elements .start + 10 ≤ 10 * mostElements)
+    → (c .before .elements .start + 10 ≤ partLength quadratic (entry-from-in-elements c .args .shape)) × (c .before .elements .start + 10 ≤ 10 * mostElements)
 room c =
     let b = c .before .before .before in
-    let s = b .before .before in
+    let s = entry-from-at-rows b in
     let g = s .args .shape in
     let r = numbers-room g (c .before .elements .inv .0) (s .pre .0) (element-lt g (c .before .elements .i) (b .rows .j) (c .elements-test .taken) (c .before .before .rows-test .taken)) in
     (omega (arith, r .0, elements-within g), r .1)
 
 -- the number that a turn reads, and what it adds
 read : (c : tie.After-number32 Inv-numbers μ-numbers Inv-elements μ-elements Inv-rows μ-rows)
-    → c .number32 .result ≡ getD (held (c .before .before .before .before .before .before .before .before .args .section .now) (c .before .before .before .before .before .before .before .before .args .shape .nx) (c .before .before .before .before .before .before .before .before .args .shape .ny)) (c .before .before .before .before .elements .start + c .before .before .numbers .v) 0
+    → c .number32 .result ≡ getD (held (entry-from-number32 c .args .section .now) (entry-from-number32 c .args .shape .nx) (entry-from-number32 c .args .shape .ny)) (c .before .before .before .before .elements .start + at-numbers-from-number32 c .numbers .v) 0
 read c =
     let e = c .before .before .before in
-    let a = e .before .before .before .before .before .args in
+    let a = entry-from-in-elements e .args in
     let r = room e in
-    c .number32 .ensures ∙ number-at (a .section .now) (partLength quadratic (grid (a .shape .nx) (a .shape .ny))) (e .before .elements .start + c .before .before .numbers .v) (omega (arith, part-of (a .shape)))
+    c .number32 .ensures ∙ number-at (a .section .now) (partLength quadratic (grid (a .shape .nx) (a .shape .ny))) (e .before .elements .start + at-numbers-from-number32 c .numbers .v) (omega (arith, part-of (a .shape)))
 
 added : (c : tie.After-number-weight Inv-numbers μ-numbers Inv-elements μ-elements Inv-rows μ-rows) → c .number-weight .result * c .before .number32 .result ≤ 16 * 2 ^ 32
 added c = weighs-small (c .before .before .before .numbers .v) (c .number-weight .ensures) (record { fits = c .before .number32 .ok })
@@ -77,7 +93,7 @@ elements-holds c = (at-element (omega arith) (c .before .rows .inv .0), omega ar
 
 number32-requires : tie.Need-number32-requires Inv-numbers μ-numbers Inv-elements μ-elements Inv-rows μ-rows
 number32-requires c κs =
-    let r = room (c .before .before) in
+    let r = room (in-elements-from-in-numbers c) in
     omega (arith, c .before .before .before .before .before .before .before .pre .1)
 
 numbers-again : tie.Need-numbers-again Inv-numbers μ-numbers Inv-elements μ-elements Inv-rows μ-rows
@@ -91,7 +107,7 @@ elements-again c = (at-element (omega arith) (element-ends (c .before .before .b
 rows-again : tie.Need-rows-again Inv-numbers μ-numbers Inv-elements μ-elements Inv-rows μ-rows
 rows-again c =
     let b = c .before .before .before in
-    (at-element (omega (arith, row-more (b .before .before .args .shape .nx) (b .rows .j))) (c .before .elements .inv .0), omega arith)
+    (at-element (omega (arith, row-more (entry-from-at-rows b .args .shape .nx) (b .rows .j))) (c .before .elements .inv .0), omega arith)
 
 -- no row is left
 returns : tie.Need-returns Inv-numbers μ-numbers Inv-elements μ-elements Inv-rows μ-rows
@@ -106,8 +122,8 @@ returns-2 c =
     let n = c .before .before .before .before in
     let e = n .before .before .before in
     let b = e .before .before in
-    let g = b .before .before .args .shape in
-    rw (← (part-of g)) (sym (broken g (e .elements .inv .0) (element-lt g (e .elements .i) (b .rows .j) (n .before .before .elements-test .taken) (e .before .rows-test .taken)) (n .before .numbers .inv) (n .numbers-test .taken) (c .before .before .number-weight .ensures) (read (c .before .before .before)) (sym (c .before .breaks .ensures) ∙ c .if1 .taken)))
+    let g = entry-from-at-rows b .args .shape in
+    rw (← (part-of g)) (sym (broken g (e .elements .inv .0) (element-lt g (e .elements .i) (b .rows .j) (in-elements-from-in-numbers n .elements-test .taken) (e .before .rows-test .taken)) (n .before .numbers .inv) (n .numbers-test .taken) (c .before .before .number-weight .ensures) (read (c .before .before .before)) (sym (c .before .breaks .ensures) ∙ c .if1 .taken)))
 
 pub tracer-sound-spec : {M : Type 1} → statement M
 tracer-sound-spec = tie.close (tie.spec Inv-numbers μ-numbers Inv-elements μ-elements Inv-rows μ-rows rows-holds elements-holds (λ c. element-starts (c .before .elements .inv .0)) (λ c. let r = room (c .before .before) in record { fits = omega arith }) (λ c. let r = room (c .before .before) in record { fits = omega arith }) number32-requires (λ c. search needs) (λ c κs. search needs) (λ c. record { fits = omega (arith, added c) }) (λ c. record { fits = omega (arith, added c) }) (λ c κs. search needs) (λ c. search needs) (λ c. search needs) numbers-again (λ c. let r = room (c .before .before) in record { fits = omega arith }) (λ c. search needs) (λ c. search needs) elements-again (λ c. search needs) (λ c. search needs) rows-again returns returns-2)
