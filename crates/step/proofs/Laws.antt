@@ -1,4 +1,4 @@
--- The target's sum as the machine makes it, and lists of blocks.
+-- The target's sum as the machine makes it, exact since each of its numbers is within the limit; an element's new numbers, from what is lent.
 use mathlib.Core.Path.{_≡_, sym, ap, subst, _∙_}
 use mathlib.Core.List.{List}
 use Prim.Native.Nat.{ℕ, _+_, _*_, _≤_, _<_}

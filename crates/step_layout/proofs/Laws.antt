@@ -20,13 +20,20 @@ use Rattle.step_layout.specs.Sections.{stageLength, stageStart, workUsed
 abbrev pub mostUsed : ℕ
 mostUsed = 49 * mostElements
 
+-- work of n numbers has those that a step uses, at small places
+pub record Room (g : Shape) (n : ℕ) : Type 0 where
+  pub there : workUsed g ≤ n
+  pub few : workUsed g ≤ mostUsed
+
 module _ (g : Shape) where
-  -- what is used is there, and its places are small
   pub used-le : workUsed g ≤ workNeeded g
   used-le = omega arith
 
   pub places-le : Admitted g → workUsed g ≤ mostUsed
   places-le h = omega (arith, elements-le g h)
+
+  pub work-room : {n : ℕ} → Admitted g → workUsed g ≤ n → Room g n
+  work-room h l = record { there = l; few = places-le h }
 
   -- a stage ends where the next one starts, and before every later one
   pub next-stage : (m : ℕ) → stageStart g (m + 1) ≡ stageStart g m + stageLength g

@@ -18,8 +18,8 @@ use Rattle.rules.specs.Field.{quadratic, elements, faces, mass, limit}
 use Rattle.rules.proofs.ShapeLaws.{elements-le}
 use Rattle.rules.specs.Sizes.{fluxSize}
 use Rattle.field_layout.proofs.PlaceLaws.{elements-are}
-use Rattle.step_layout.specs.Sections.{fluxesStart, massesStart, outflowsStart, workUsed}
-use Rattle.step_layout.proofs.Laws.{places-le, lent-kept, mostUsed}
+use Rattle.step_layout.specs.Sections.{fluxesStart, massesStart, outflowsStart}
+use Rattle.step_layout.proofs.Laws.{places-le, lent-kept, mostUsed, Room, work-room}
 use Rattle.step_grid.specs.Place.{Placed}
 use Rattle.step_correction.specs.Amounts.{lentFluxes, localOutflow}
 use Rattle.step_correction.proofs.Laws.{mass-part}
@@ -44,7 +44,10 @@ placed c = record { admits = c .before .before .before .before .before .before .
 -- where the sections start, and that a turn's numbers are within part and work
 sizes : (c : tie.In-loop Inv-loop μ-loop) → let s = c .before .before in
     let a = s .before .before .before .before .before .args in
-    (s .before .before .fluxes-start .result ≡ fluxesStart (a .shape)) × (s .before .masses-start .result ≡ massesStart (a .shape)) × (s .outflows-start .result ≡ outflowsStart (a .shape)) × (c .before .loop .e < elements (a .shape)) × (c .before .loop .start + 10 ≤ length (a .part .now)) × (c .before .loop .start + 10 ≤ mostUsed) × (workUsed (a .shape) ≤ length (a .work .now)) × (workUsed (a .shape) ≤ mostUsed)
+    (s .before .before .fluxes-start .result ≡ fluxesStart (a .shape)) × (s .before .masses-start .result ≡ massesStart (a .shape))
+    × (s .outflows-start .result ≡ outflowsStart (a .shape)) × (c .before .loop .e < elements (a .shape))
+    × (c .before .loop .start + 10 ≤ length (a .part .now)) × (c .before .loop .start + 10 ≤ mostUsed)
+    × Room (a .shape) (length (a .work .now))
 sizes c =
     let s = c .before .before in
     let b = s .before .before .before .before .before in
@@ -52,8 +55,7 @@ sizes c =
     let h = b .pre in
     let l = c .before .loop in
     let p = placed c .inside in
-    let few = places-le g (h .admits) in
-    (s .before .before .fluxes-start .ensures, s .before .masses-start .ensures, s .outflows-start .ensures, p, omega (arith, p, l .inv .1, h .numbers, elements-are g), omega (arith, p, l .inv .1, few), h .long, few)
+    (s .before .before .fluxes-start .ensures, s .before .masses-start .ensures, s .outflows-start .ensures, p, omega (arith, p, l .inv .1, h .numbers, elements-are g), omega (arith, p, l .inv .1, places-le g (h .admits)), work-room g (h .admits) (h .long))
 
 mass-requires : tie.Need-mass-requires Inv-loop μ-loop
 mass-requires c κs =

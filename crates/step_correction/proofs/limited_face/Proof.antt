@@ -1,7 +1,7 @@
 -- A face's limited flux: its donor is on the grid, so that the donor's outflow and mass are read where `Amounts` has them.
 use mathlib.Core.Path.{_≡_, sym, ap, subst, _∙_}
 use mathlib.Core.Bool.{cond}
-use Prim.Native.Nat.{ℕ, _≤_, _<_, _+_}
+use Prim.Native.Nat.{ℕ, _<_, _+_}
 use borrow.Author.Needs.{needs}
 use lib.ListN.{length}
 use lib.Signed.{nonNeg}
@@ -15,16 +15,17 @@ use Rattle.whole.proofs.Sizes.{back-is, read-back, are-eq}
 use Rattle.rules.specs.Field.{elements, faces, limit}
 use Rattle.rules.specs.Correction.{cut}
 use Rattle.rules.specs.Sizes.{fluxSize, outflowSize}
-use Rattle.step_layout.specs.Sections.{fluxesStart, massesStart, outflowsStart, workUsed}
-use Rattle.step_layout.proofs.Laws.{places-le, mostUsed}
+use Rattle.step_layout.specs.Sections.{fluxesStart, massesStart, outflowsStart}
+use Rattle.step_layout.proofs.Laws.{Room, work-room}
 use Rattle.step_correction.specs.Amounts.{NotNegative, limitedFace}
 use Rattle.step_correction.proofs.limited_face.Statement.{statement}
 use Rattle.step_correction.proofs.limited_face.Tie as tie
 
 -- the face's flux is there
 flux-there : (c : tie.After-fluxes-start) → let b = c .before in
-    (c .fluxes-start .result ≡ fluxesStart (b .args .shape)) × (b .args .f < faces (b .args .shape)) × (workUsed (b .args .shape) ≤ length (b .args .work .now)) × (workUsed (b .args .shape) ≤ mostUsed)
-flux-there c = let b = c .before in (c .fluxes-start .ensures, b .pre .1 .0, b .pre .0 .long, places-le (b .args .shape) (b .pre .0 .admits))
+    (c .fluxes-start .result ≡ fluxesStart (b .args .shape)) × (b .args .f < faces (b .args .shape))
+    × Room (b .args .shape) (length (b .args .work .now))
+flux-there c = let b = c .before in (c .fluxes-start .ensures, b .pre .1 .0, work-room (b .args .shape) (b .pre .0 .admits) (b .pre .0 .long))
 
 -- the flux, and its donor
 flux-is : (c : tie.After-flux) → let a = c .before .before .args in
@@ -46,11 +47,12 @@ donor-inside c =
 -- the donor's outflow and mass are there
 amounts-there : (c : tie.After-masses-start) → let d = c .before .before in
     let b = d .before .before .before in
-    (c .before .outflows-start .result ≡ outflowsStart (b .args .shape)) × (c .masses-start .result ≡ massesStart (b .args .shape)) × (d .donor .result < elements (b .args .shape)) × (workUsed (b .args .shape) ≤ length (b .args .work .now)) × (workUsed (b .args .shape) ≤ mostUsed)
+    (c .before .outflows-start .result ≡ outflowsStart (b .args .shape)) × (c .masses-start .result ≡ massesStart (b .args .shape))
+    × (d .donor .result < elements (b .args .shape)) × Room (b .args .shape) (length (b .args .work .now))
 amounts-there c =
     let d = c .before .before in
     let b = d .before .before .before in
-    (c .before .outflows-start .ensures, c .masses-start .ensures, donor-inside d, b .pre .0 .long, places-le (b .args .shape) (b .pre .0 .admits))
+    (c .before .outflows-start .ensures, c .masses-start .ensures, donor-inside d, work-room (b .args .shape) (b .pre .0 .admits) (b .pre .0 .long))
 
 -- as they are read
 out-is : (c : tie.After-masses-start) → let d = c .before .before in

@@ -16,8 +16,8 @@ use Rattle.whole.proofs.SumLaws.{sumℤ-more}
 use Rattle.whole.proofs.Sizes.{sizes, exacts, fits, exact, are-eq}
 use Rattle.rules.specs.Field.{quadratic}
 use Rattle.rules.specs.Sizes.{stageSize, faceSumSize}
-use Rattle.step_layout.specs.Sections.{stageLength, stageStart, workUsed}
-use Rattle.step_layout.proofs.Laws.{places-le, mostUsed}
+use Rattle.step_layout.specs.Sections.{stageLength, stageStart}
+use Rattle.step_layout.proofs.Laws.{Room, work-room}
 use Rattle.step_fluxes.proofs.Laws.{line-room, read-small, term, stagesTerm, same-terms, terms-are, terms-within}
 use Rattle.step_fluxes.proofs.face_sum.Statement.{statement}
 use Rattle.step_fluxes.proofs.face_sum.Tie as tie
@@ -40,19 +40,22 @@ terms c = let a = c .before .before .before .args in same-terms (a .shape) (a .w
 -- what a turn reads is there
 inside : (c : tie.In-loop Inv-loop μ-loop) → let s = c .before .before in
     let a = s .before .before .before .args in
-    (s .before .before .stage-start .result ≡ stageStart (a .shape) 0) × (s .before .stage-start2 .result ≡ stageStart (a .shape) 1) × (s .stage-start3 .result ≡ stageStart (a .shape) 2) × (c .before .loop .at < stageLength (a .shape)) × (workUsed (a .shape) ≤ length (a .work .now)) × (workUsed (a .shape) ≤ mostUsed)
+    (s .before .before .stage-start .result ≡ stageStart (a .shape) 0) × (s .before .stage-start2 .result ≡ stageStart (a .shape) 1)
+    × (s .stage-start3 .result ≡ stageStart (a .shape) 2) × (c .before .loop .at < stageLength (a .shape))
+    × Room (a .shape) (length (a .work .now))
 inside c =
     let s = c .before .before in
     let b = s .before .before .before in
     let a = b .args in
     let h = b .pre .0 in
-    (s .before .before .stage-start .ensures, s .before .stage-start2 .ensures, s .stage-start3 .ensures, omega (arith, c .before .loop .inv .1, line-room (a .start) (a .stride) (c .before .loop .r) (b .pre .1) (omega arith)), h .long, places-le (a .shape) (h .admits))
+    (s .before .before .stage-start .ensures, s .before .stage-start2 .ensures, s .stage-start3 .ensures, omega (arith, c .before .loop .inv .1, line-room (a .start) (a .stride) (c .before .loop .r) (b .pre .1) (omega arith)), work-room (a .shape) (h .admits) (h .long))
 
 -- and small
 small : (c : tie.In-loop Inv-loop μ-loop) → let s = c .before .before in
     let w = s .before .before .before .args .work .now in
     let n = c .before .loop .at in
-    Within stageSize (at w (s .before .before .stage-start .result + n)) × Within stageSize (at w (s .before .stage-start2 .result + n)) × Within stageSize (at w (s .stage-start3 .result + n))
+    Within stageSize (at w (s .before .before .stage-start .result + n))
+    × Within stageSize (at w (s .before .stage-start2 .result + n)) × Within stageSize (at w (s .stage-start3 .result + n))
 small c =
     let h = c .before .before .before .before .before .pre .0 in
     let i = inside c in

@@ -17,8 +17,8 @@ use Rattle.rules.specs.Grid.{east, north}
 use Rattle.rules.specs.Calls.{windAt}
 use Rattle.rules.proofs.ShapeLaws.{elements-le}
 use Rattle.rules.specs.Sizes.{stageSize}
-use Rattle.step_layout.specs.Sections.{stageLength, stageStart, fluxesStart, northFluxesStart, workUsed}
-use Rattle.step_layout.proofs.Laws.{places-le, stage-ends, mostUsed}
+use Rattle.step_layout.specs.Sections.{stageLength, stageStart, fluxesStart, northFluxesStart}
+use Rattle.step_layout.proofs.Laws.{stage-ends, Room, work-room}
 use Rattle.step_grid.specs.Place.{Placed}
 use Rattle.step_grid.proofs.PlaceLaws.{east-in, north-in}
 use Rattle.step_fluxes.specs.Face.{Staged, faceFlux, eastFlux, northFlux}
@@ -44,12 +44,13 @@ placed c = record { admits = c .before .before .before .before .before .pre .1 .
 
 sizes : (c : tie.In-loop Inv-loop μ-loop) → let s = c .before .before in
     let a = s .before .before .before .args in
-    (s .before .fluxes-start .result ≡ fluxesStart (a .shape)) × (s .north-fluxes-start .result ≡ northFluxesStart (a .shape)) × (c .before .loop .e < elements (a .shape)) × (workUsed (a .shape) ≤ length (a .work .now)) × (workUsed (a .shape) ≤ mostUsed)
+    (s .before .fluxes-start .result ≡ fluxesStart (a .shape)) × (s .north-fluxes-start .result ≡ northFluxesStart (a .shape))
+    × (c .before .loop .e < elements (a .shape)) × Room (a .shape) (length (a .work .now))
 sizes c =
     let s = c .before .before in
     let b = s .before .before .before in
     let h = b .pre .1 in
-    (s .before .fluxes-start .ensures, s .north-fluxes-start .ensures, placed c .inside, h .long, places-le (b .args .shape) (h .admits))
+    (s .before .fluxes-start .ensures, s .north-fluxes-start .ensures, placed c .inside, work-room (b .args .shape) (h .admits) (h .long))
 
 stages-kept : (c : tie.In-loop Inv-loop μ-loop) (m i : ℕ) → let a = c .before .before .before .before .before .args in
     m < 3 → i < stageLength (a .shape) → at (c .before .loop .work) (stageStart (a .shape) m + i) ≡ at (a .work .now) (stageStart (a .shape) m + i)

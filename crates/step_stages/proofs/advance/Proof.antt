@@ -13,13 +13,13 @@ use Rattle.whole.specs.Written.{Written}
 use Rattle.whole.proofs.OverwriteLaws.{part-size}
 use Rattle.whole.proofs.TableLaws.{getD-table}
 use Rattle.whole.proofs.WrittenLaws.{written-none, written-moved, written-turn}
-use Rattle.rules.specs.Field.{quadratic, elements, limit}
+use Rattle.rules.specs.Field.{quadratic, limit}
 use Rattle.rules.specs.Stages.{tendency}
 use Rattle.rules.specs.Calls.{windAt}
-use Rattle.rules.specs.Sizes.{mostElements, stageSize, tendencySize, earlierSumSize}
+use Rattle.rules.specs.Sizes.{stageSize, tendencySize, earlierSumSize}
 use Rattle.rules.proofs.ShapeLaws.{elements-le}
-use Rattle.step_layout.specs.Sections.{stageLength, stageStart, sumsStart, workUsed}
-use Rattle.step_layout.proofs.Laws.{next-stage, stage-ends, lent-kept}
+use Rattle.step_layout.specs.Sections.{stageLength, stageStart, sumsStart}
+use Rattle.step_layout.proofs.Laws.{next-stage, stage-ends, lent-kept, Room, work-room}
 use Rattle.step_grid.specs.Place.{Placed}
 use Rattle.step_upwind.specs.Upwind.{asStage}
 use Rattle.step_stages.specs.Advance.{newSum, newValue, lentStage, gridSums, gridValues}
@@ -52,12 +52,15 @@ loop-holds c = (omega arith, omega arith, omega arith, omega arith, written-none
 sizes : (c : tie.After-times Inv-loop μ-loop) → let b = c .before .before .before .before .before .before in
     let g = b .args .shape in
     let m = b .args .stage in
-    (c .before .before .before .before .stage-start .result ≡ stageStart g m) × (c .before .before .before .stage-start2 .result ≡ stageStart g m + stageLength g) × (c .before .before .stage-start3 .result ≡ stageStart g 0) × (c .before .sums-start .result ≡ sumsStart g) × (stageStart g m + stageLength g ≤ stageStart g 3) × (elements g ≤ mostElements) × (workUsed g ≤ length (b .args .work .now))
+    (c .before .before .before .before .stage-start .result ≡ stageStart g m)
+    × (c .before .before .before .stage-start2 .result ≡ stageStart g m + stageLength g)
+    × (c .before .before .stage-start3 .result ≡ stageStart g 0) × (c .before .sums-start .result ≡ sumsStart g)
+    × (stageStart g m + stageLength g ≤ stageStart g 3) × Room g (length (b .args .work .now))
 sizes c =
     let b = c .before .before .before .before .before .before in
     let g = b .args .shape in
     let h = b .pre in
-    (c .before .before .before .before .stage-start .ensures, c .before .before .before .stage-start2 .ensures ∙ next-stage g (b .args .stage), c .before .before .stage-start3 .ensures, c .before .sums-start .ensures, stage-ends g (h .1 .1 .0), elements-le g (h .0), h .1 .1 .1 .long)
+    (c .before .before .before .before .stage-start .ensures, c .before .before .before .stage-start2 .ensures ∙ next-stage g (b .args .stage), c .before .before .stage-start3 .ensures, c .before .sums-start .ensures, stage-ends g (h .1 .1 .0), work-room g (h .0) (h .1 .1 .1 .long))
 
 part-tendencies-end : tie.Need-part-tendencies-end Inv-loop μ-loop
 part-tendencies-end c = omega (arith, sizes (c .before .before .before), c .before .before .loop .inv .4 .long)

@@ -10,10 +10,10 @@ use Rattle.whole.specs.Written.{Written}
 use Rattle.whole.proofs.OverwriteLaws.{part-size}
 use Rattle.whole.proofs.WrittenLaws.{written-none, written-moved, written-turn}
 use Rattle.rules.specs.Field.{elements}
-use Rattle.rules.specs.Sizes.{mostElements}
 use Rattle.rules.proofs.ShapeLaws.{elements-le}
+use Rattle.step_layout.proofs.Laws.{Room, work-room}
 use Rattle.field_layout.proofs.PlaceLaws.{elements-are}
-use Rattle.step_layout.specs.Sections.{stageStart, sumsStart, workUsed}
+use Rattle.step_layout.specs.Sections.{stageStart, sumsStart}
 use Rattle.step_stages.specs.Advance.{storedValue}
 use Rattle.step_stages.proofs.Laws.{stored-at}
 use Rattle.step_stages.proofs.start.Statement.{statement}
@@ -34,11 +34,12 @@ loop-holds c = (omega arith, omega arith, omega arith, omega arith, written-none
 -- where both stretches start, and that part and work are long enough
 sizes : (c : tie.After-sums-start Inv-loop μ-loop) → let b = c .before .before .before .before in
     let g = b .args .shape in
-    (c .before .stage-start .result ≡ stageStart g 0) × (c .sums-start .result ≡ sumsStart g) × (elements g ≤ mostElements) × (length (b .args .part .now) ≡ elements g * 10) × (workUsed g ≤ length (b .args .work .now))
+    (c .before .stage-start .result ≡ stageStart g 0) × (c .sums-start .result ≡ sumsStart g)
+    × (length (b .args .part .now) ≡ elements g * 10) × Room g (length (b .args .work .now))
 sizes c =
     let b = c .before .before .before .before in
     let g = b .args .shape in
-    (c .before .stage-start .ensures, c .sums-start .ensures, elements-le g (b .pre .0), omega (arith, b .pre .1 .0, elements-are g), b .pre .1 .1)
+    (c .before .stage-start .ensures, c .sums-start .ensures, omega (arith, b .pre .1 .0, elements-are g), work-room g (b .pre .0) (b .pre .1 .1))
 
 add-end : tie.Need-add-end Inv-loop μ-loop
 add-end c = record { fits = omega (arith, sizes (c .before .before), c .before .loop .inv .1) }

@@ -15,8 +15,8 @@ use Rattle.rules.specs.Field.{elements, faces, northFace, limit}
 use Rattle.rules.specs.Correction.{target}
 use Rattle.rules.specs.Sizes.{targetSize}
 use Rattle.rules.proofs.ShapeLaws.{elements-le}
-use Rattle.step_layout.specs.Sections.{massesStart, workUsed}
-use Rattle.step_layout.proofs.Laws.{mostUsed, places-le}
+use Rattle.step_layout.specs.Sections.{massesStart}
+use Rattle.step_layout.proofs.Laws.{Room, work-room}
 use Rattle.step_grid.proofs.PlaceLaws.{FaceOwners, face-owners}
 use Rattle.step.specs.Finish.{massOf}
 use Rattle.step.proofs.Laws.{B, C, Balanced, read-sum, sum-within, positive-small}
@@ -29,11 +29,12 @@ mul-n c = record { fits = omega (arith, elements-le (c .before .args .shape) (c 
 -- the element and the four faces are there
 inside : (c : tie.After-south) → let m = c .before .before in
     let a = m .before .before .args in
-    FaceOwners (a .shape) (a .e) (c .before .west .result) (c .south .result) × (m .masses-start .result ≡ massesStart (a .shape)) × (workUsed (a .shape) ≤ length (a .work .now)) × (workUsed (a .shape) ≤ mostUsed) × (faces (a .shape) ≤ length (a .report .now))
+    FaceOwners (a .shape) (a .e) (c .before .west .result) (c .south .result) × (m .masses-start .result ≡ massesStart (a .shape))
+    × Room (a .shape) (length (a .work .now)) × (faces (a .shape) ≤ length (a .report .now))
 inside c =
     let m = c .before .before in
     let b = m .before .before in
-    (face-owners (b .pre .1) (c .before .west .ensures) (c .south .ensures), m .masses-start .ensures, b .pre .0 .long, places-le (b .args .shape) (b .pre .1 .admits), b .pre .0 .wide)
+    (face-owners (b .pre .1) (c .before .west .ensures) (c .south .ensures), m .masses-start .ensures, work-room (b .args .shape) (b .pre .1 .admits) (b .pre .0 .long), b .pre .0 .wide)
 
 -- the sizes of what is read
 read : (c : tie.After-south) → let m = c .before .before in
