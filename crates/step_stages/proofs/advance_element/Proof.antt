@@ -29,56 +29,66 @@ abbrev μ-loop : tie.MeasureT-loop
 loop-holds : tie.Need-loop-holds Inv-loop μ-loop
 loop-holds c = (omega arith, written-none _ _ _ _ _)
 
+-- places of the code, seen from later ones
+abbrev entry-from-in-loop : tie.In-loop Inv-loop μ-loop → tie.Start Inv-loop μ-loop
+entry-from-in-loop c = c .before .before
+
+abbrev in-loop-from-sum2 : tie.After-sum2 Inv-loop μ-loop → tie.In-loop Inv-loop μ-loop
+in-loop-from-sum2 c = c .before .before .before
+
+abbrev in-loop-from-divided : tie.After-divided Inv-loop μ-loop → tie.In-loop Inv-loop μ-loop
+in-loop-from-divided c = in-loop-from-sum2 (c .before)
+
 -- what a turn reads is as it was: the stored value, and the sum
-value-is : (c : tie.In-loop Inv-loop μ-loop) → at (c .before .loop .work) (c .before .before .args .from + c .before .loop .k) ≡ at (c .before .before .args .work .now) (c .before .before .args .from + c .before .loop .k)
-value-is c = let h = c .before .before .pre .0 in c .before .loop .inv .1 .kept _ (λ p q. omega (arith, h .before)) (λ p q. omega (arith, h .before, h .between))
+value-is : (c : tie.In-loop Inv-loop μ-loop) → at (c .before .loop .work) (entry-from-in-loop c .args .from + c .before .loop .k) ≡ at (entry-from-in-loop c .args .work .now) (entry-from-in-loop c .args .from + c .before .loop .k)
+value-is c = let h = entry-from-in-loop c .pre .0 in c .before .loop .inv .1 .kept _ (λ p q. omega (arith, h .before)) (λ p q. omega (arith, h .before, h .between))
 
-value-small : (c : tie.In-loop Inv-loop μ-loop) → Within limit (at (c .before .loop .work) (c .before .before .args .from + c .before .loop .k))
-value-small c = subst (λ (z : ℤ). Within limit z) (sym (value-is c)) (c .before .before .pre .0 .values (c .before .loop .k) (omega arith))
+value-small : (c : tie.In-loop Inv-loop μ-loop) → Within limit (at (c .before .loop .work) (entry-from-in-loop c .args .from + c .before .loop .k))
+value-small c = subst (λ (z : ℤ). Within limit z) (sym (value-is c)) (entry-from-in-loop c .pre .0 .values (c .before .loop .k) (omega arith))
 
-sum-is : (c : tie.In-loop Inv-loop μ-loop) → at (c .before .loop .work) (c .before .before .args .sums + c .before .loop .k) ≡ at (c .before .before .args .work .now) (c .before .before .args .sums + c .before .loop .k)
-sum-is c = let h = c .before .before .pre .0 in c .before .loop .inv .1 .kept _ (λ p q. omega (arith, h .between)) (λ p q. omega arith)
+sum-is : (c : tie.In-loop Inv-loop μ-loop) → at (c .before .loop .work) (entry-from-in-loop c .args .sums + c .before .loop .k) ≡ at (entry-from-in-loop c .args .work .now) (entry-from-in-loop c .args .sums + c .before .loop .k)
+sum-is c = let h = entry-from-in-loop c .pre .0 in c .before .loop .inv .1 .kept _ (λ p q. omega (arith, h .between)) (λ p q. omega arith)
 
-sum-small : (c : tie.In-loop Inv-loop μ-loop) → Within earlierSumSize (at (c .before .loop .work) (c .before .before .args .sums + c .before .loop .k))
-sum-small c = subst (λ (z : ℤ). Within earlierSumSize z) (sym (sum-is c)) (c .before .before .pre .0 .small (c .before .loop .k) (omega arith))
+sum-small : (c : tie.In-loop Inv-loop μ-loop) → Within earlierSumSize (at (c .before .loop .work) (entry-from-in-loop c .args .sums + c .before .loop .k))
+sum-small c = subst (λ (z : ℤ). Within earlierSumSize z) (sym (sum-is c)) (entry-from-in-loop c .pre .0 .small (c .before .loop .k) (omega arith))
 
-room : (c : tie.In-loop Inv-loop μ-loop) → (c .before .before .args .sums + 9 ≤ length (c .before .loop .work)) × (c .before .before .args .to + 9 ≤ c .before .before .args .sums) × (c .before .before .args .from + 9 ≤ c .before .before .args .to)
-room c = let h = c .before .before .pre .0 in (omega (arith, h .room, c .before .loop .inv .1 .long), h .between, h .before)
+room : (c : tie.In-loop Inv-loop μ-loop) → (entry-from-in-loop c .args .sums + 9 ≤ length (c .before .loop .work)) × (entry-from-in-loop c .args .to + 9 ≤ entry-from-in-loop c .args .sums) × (entry-from-in-loop c .args .from + 9 ≤ entry-from-in-loop c .args .to)
+room c = let h = entry-from-in-loop c .pre .0 in (omega (arith, h .room, c .before .loop .inv .1 .long), h .between, h .before)
 
 -- the factor is at most 4
-times-small : (c : tie.In-loop Inv-loop μ-loop) → Within 6 (c .before .before .args .times)
-times-small c = let b = c .before .before in subst (λ (z : ℤ). Within 6 z) (factor-is (b .args .stage) ∙ sym (b .pre .1 .0)) (record { within = peak-at factors (b .args .stage) })
+times-small : (c : tie.In-loop Inv-loop μ-loop) → Within 6 (entry-from-in-loop c .args .times)
+times-small c = let b = entry-from-in-loop c in subst (λ (z : ℤ). Within 6 z) (factor-is (b .args .stage) ∙ sym (b .pre .1 .0)) (record { within = peak-at factors (b .args .stage) })
 
 mul-sum-3 : tie.Need-mul-sum-3 Inv-loop μ-loop
-mul-sum-3 c = let i = c .before .before .before in let h = i .before .before .pre .1 .1 in let f = times-small i in fits (search sizes depth 20) tt
+mul-sum-3 c = let i = in-loop-from-sum2 c in let h = entry-from-in-loop i .pre .1 .1 in let f = times-small i in fits (search sizes depth 20) tt
 
 add-sum-2 : tie.Need-add-sum-2 Inv-loop μ-loop
-add-sum-2 c = let i = c .before .before .before in let h = i .before .before .pre .1 .1 in let f = times-small i in let s = sum-small i in fits (search sizes depth 20) tt
+add-sum-2 c = let i = in-loop-from-sum2 c in let h = entry-from-in-loop i .pre .1 .1 in let f = times-small i in let s = sum-small i in fits (search sizes depth 20) tt
 
 divided-requires : tie.Need-divided-requires Inv-loop μ-loop
 divided-requires c κs =
-    let b = c .before .before .before in
-    let h = b .before .before .pre .1 .1 in
+    let b = in-loop-from-sum2 c in
+    let h = entry-from-in-loop b .pre .1 .1 in
     let f = times-small b in
     let s = sum-small b in
-    (b .before .before .pre .0 .stage, within (search sizes depth 20) tt)
+    (entry-from-in-loop b .pre .0 .stage, within (search sizes depth 20) tt)
 
 add-work : tie.Need-add-work Inv-loop μ-loop
 add-work c =
-    let b = c .before .before .before .before in
+    let b = in-loop-from-divided c in
     let v = value-small b in
     let d = c .divided .ensures in
     fits (search sizes depth 20) tt
 
 slice-set-from-work : tie.Need-slice-set-from-work Inv-loop μ-loop
-slice-set-from-work c = rw length-set (omega (arith, room (c .before .before .before .before)))
+slice-set-from-work c = rw length-set (omega (arith, room (in-loop-from-divided c)))
 
 loop-again : tie.Need-loop-again Inv-loop μ-loop
 loop-again c =
-    let b = c .before .before .before .before in
-    let a = b .before .before .args in
+    let b = in-loop-from-divided c in
+    let a = entry-from-in-loop b .args in
     let l = b .before .loop in
-    let h = b .before .before .pre .1 .1 in
+    let h = entry-from-in-loop b .pre .1 .1 in
     let f = times-small b in
     let m = a .stage in
     let w = a .work .now in
@@ -87,10 +97,10 @@ loop-again c =
     let v = value-small b in
     let t = a .t .now in
     let sum = elementSums m (a .sums) t w k in
-    let sum-of = ap₂ (λ x y. x +ℤ y *ℤ at t k) (sum-is b) (b .before .before .pre .1 .0) in
+    let sum-of = ap₂ (λ x y. x +ℤ y *ℤ at t k) (sum-is b) (entry-from-in-loop b .pre .1 .0) in
     let d = are-eq (are-at {z = toZ w64 (ofZ w64 (toZ w64 (ofZ w64 (at (l .work) (a .sums + k))) +ℤ toZ w64 (ofZ w64 (toZ w64 (ofZ w64 (a .times)) *ℤ toZ w64 (ofZ w64 (at t k))))))} (λ z. floorDiv z (divisor m)) (at (l .work) (a .sums + k) +ℤ a .times *ℤ at t k) (c .divided .ensures) (search exacts depth 20) tt) (ap (λ z. floorDiv z (divisor m)) sum-of) in (
       omega arith,
-      written-next (elementValues m (a .from) (a .sums) t w) (elementSums m (a .sums) t w) _ _ (omega (arith, room b)) (omega (arith, b .before .before .pre .0 .room)) (l .inv .1)
+      written-next (elementValues m (a .from) (a .sums) t w) (elementSums m (a .sums) t w) _ _ (omega (arith, room b)) (omega (arith, entry-from-in-loop b .pre .0 .room)) (l .inv .1)
           (exact (search exacts depth 20) tt ∙ sum-of)
           (exact (search exacts depth 20) tt ∙ ap (λ x. x +ℤ floorDiv sum (divisor m)) (value-is b)),
     )

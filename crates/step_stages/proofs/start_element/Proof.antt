@@ -21,8 +21,12 @@ abbrev μ-loop : tie.MeasureT-loop
 loop-holds : tie.Need-loop-holds Inv-loop μ-loop
 loop-holds c = (omega arith, written-none _ _ _ _ _)
 
-room : (c : tie.In-loop Inv-loop μ-loop) → (c .before .before .args .sums + 9 ≤ length (c .before .loop .work)) × (c .before .before .args .to + 9 ≤ c .before .before .args .sums)
-room c = let h = c .before .before .pre in (omega (arith, h .1 .1, c .before .loop .inv .1 .long), h .1 .0)
+-- places of the code, seen from later ones
+abbrev entry-from-in-loop : tie.In-loop Inv-loop μ-loop → tie.Start Inv-loop μ-loop
+entry-from-in-loop c = c .before .before
+
+room : (c : tie.In-loop Inv-loop μ-loop) → (entry-from-in-loop c .args .sums + 9 ≤ length (c .before .loop .work)) × (entry-from-in-loop c .args .to + 9 ≤ entry-from-in-loop c .args .sums)
+room c = let h = entry-from-in-loop c .pre in (omega (arith, h .1 .1, c .before .loop .inv .1 .long), h .1 .0)
 
 cast-work : tie.Need-cast-work Inv-loop μ-loop
 cast-work c = record { sfits = omega (arith, c .shared-slice-known .given (c .before .before .loop .k)) }
@@ -33,9 +37,9 @@ slice-set-from-work c = rw length-set (omega (arith, room (c .before)))
 loop-again : tie.Need-loop-again Inv-loop μ-loop
 loop-again c =
     let b = c .before in
-    let a = b .before .before .args in
+    let a = entry-from-in-loop b .args in
     let l = b .before .loop in
-    (omega arith, written-next (λ i. pos (getD (a .numbers .now) i 0)) (λ _. pos 0) _ _ (omega (arith, room b)) (omega (arith, b .before .before .pre .1 .1)) (l .inv .1) refl (toZ-pos w64 (omega (arith, c .shared-slice-known .given (l .k)))))
+    (omega arith, written-next (λ i. pos (getD (a .numbers .now) i 0)) (λ _. pos 0) _ _ (omega (arith, room b)) (omega (arith, entry-from-in-loop b .pre .1 .1)) (l .inv .1) refl (toZ-pos w64 (omega (arith, c .shared-slice-known .given (l .k)))))
 
 same-length : tie.Need-same-length Inv-loop μ-loop
 same-length c = c .before .loop .inv .1 .long

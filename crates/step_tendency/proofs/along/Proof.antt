@@ -25,25 +25,35 @@ loop-holds : tie.Need-loop-holds Inv-loop μ-loop
 unfolding sumℤ
 loop-holds c = (omega arith, record { same = refl; bound = record { within = omega arith } })
 
+-- places of the code, seen from later ones
+abbrev entry-from-x : tie.After-x Inv-loop μ-loop → tie.Start Inv-loop μ-loop
+entry-from-x c = c .before .before .before
+
+abbrev entry-from-x3 : tie.After-x3 Inv-loop μ-loop → tie.Start Inv-loop μ-loop
+entry-from-x3 c = entry-from-x (c .before .before)
+
+abbrev at-loop-from-x3 : tie.After-x3 Inv-loop μ-loop → tie.At-loop Inv-loop μ-loop
+at-loop-from-x3 c = c .before .before .before .before
+
 -- a line's places are within the element
-reach : (c : tie.After-x Inv-loop μ-loop) → c .before .before .before .args .stride * c .before .before .loop .q ≤ c .before .before .before .args .stride * 2
-reach c = mul-le-mul-left (c .before .before .before .args .stride) (omega arith)
+reach : (c : tie.After-x Inv-loop μ-loop) → entry-from-x c .args .stride * c .before .before .loop .q ≤ entry-from-x c .args .stride * 2
+reach c = mul-le-mul-left (entry-from-x c .args .stride) (omega arith)
 
 mul-x-4 : tie.Need-mul-x-4 Inv-loop μ-loop
 mul-x-4 c = let h = c .before .before .before .before .pre in fits (search sizes depth 20) tt
 
 mul-x-7 : tie.Need-mul-x-7 Inv-loop μ-loop
-mul-x-7 c = let h = c .before .before .before .before .before .pre in fits (search sizes depth 20) tt
+mul-x-7 c = let h = entry-from-x3 c .pre in fits (search sizes depth 20) tt
 
 add-x-3 : tie.Need-add-x-3 Inv-loop μ-loop
-add-x-3 c = let h = c .before .before .before .before .before .pre in let s = c .before .before .before .before .loop .inv .1 in fits (search sizes depth 20) tt
+add-x-3 c = let h = entry-from-x3 c .pre in let s = at-loop-from-x3 c .loop .inv .1 in fits (search sizes depth 20) tt
 
 loop-again : tie.Need-loop-again Inv-loop μ-loop
 loop-again c =
-    let b = c .before .before .before .before .before in
+    let b = entry-from-x3 c in
     let h = b .pre in
-    let s = c .before .before .before .before .loop .inv .1 in
-    let q = c .before .before .before .before .loop .q in
+    let s = at-loop-from-x3 c .loop .inv .1 in
+    let q = at-loop-from-x3 c .loop .q in
     let a = b .args in
     (omega arith, record { same = exact (search exacts depth 20) tt ∙ sym (sumℤ-more q (term (a .c .now) (a .v .now) (a .start) (a .stride) (a .place))); bound = terms-within (a .c .now) (a .v .now) (a .start) (a .stride) (a .place) _ (h .0) (h .1 .0) (omega arith) })
 

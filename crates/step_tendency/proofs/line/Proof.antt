@@ -31,29 +31,39 @@ along-requires c κs = let h = c .before .before .pre in (h .1 .0, (h .1 .1 .0, 
 with-ends-requires : tie.Need-with-ends-requires Inv-loop μ-loop
 with-ends-requires c κs = let h = c .before .before .before .pre in let s = c .along .ensures in (within (search sizes depth 20) tt, (within (search sizes depth 20) tt, within (search sizes depth 20) tt))
 
+-- places of the code, seen from later ones
+abbrev entry-from-loop : tie.After-loop Inv-loop μ-loop → tie.Start Inv-loop μ-loop
+entry-from-loop c = c .before .before
+
+abbrev entry-from-with-ends : tie.After-with-ends Inv-loop μ-loop → tie.Start Inv-loop μ-loop
+entry-from-with-ends c = c .before .before .before .before
+
+abbrev at-loop-from-with-ends : tie.After-with-ends Inv-loop μ-loop → tie.At-loop Inv-loop μ-loop
+at-loop-from-with-ends c = c .before .before .before
+
 slice-set-from-out : tie.Need-slice-set-from-out Inv-loop μ-loop
-slice-set-from-out c = omega (arith, c .before .before .before .loop .inv .1)
+slice-set-from-out c = omega (arith, at-loop-from-with-ends c .loop .inv .1)
 
 -- what a turn stores
-stored : (c : tie.After-with-ends Inv-loop μ-loop) → toZ w64 (ofZ w64 (c .with-ends .result)) ≡ lineAt (c .before .before .before .before .args .c .now) (c .before .before .before .before .args .v .now) (c .before .before .before .before .args .start) (c .before .before .before .before .args .stride) (toZ w64 (ofZ w64 (c .before .before .before .before .args .first))) (toZ w64 (ofZ w64 (c .before .before .before .before .args .last))) (c .before .before .before .loop .place)
+stored : (c : tie.After-with-ends Inv-loop μ-loop) → toZ w64 (ofZ w64 (c .with-ends .result)) ≡ lineAt (entry-from-with-ends c .args .c .now) (entry-from-with-ends c .args .v .now) (entry-from-with-ends c .args .start) (entry-from-with-ends c .args .stride) (toZ w64 (ofZ w64 (entry-from-with-ends c .args .first))) (toZ w64 (ofZ w64 (entry-from-with-ends c .args .last))) (at-loop-from-with-ends c .loop .place)
 stored c =
-    let a = c .before .before .before .before .args in
-    let k = c .before .before .before .loop .place in
+    let a = entry-from-with-ends c .args in
+    let k = at-loop-from-with-ends c .loop .place in
     read-back w64 (c .with-ends .ensures) tt ∙ ap (λ s. withEnds s k (toZ w64 (ofZ w64 (a .first))) (toZ w64 (ofZ w64 (a .last)))) (read-back w64 (c .before .along .ensures) tt)
 
 loop-again : tie.Need-loop-again Inv-loop μ-loop
 loop-again c =
-    let l = c .before .before .before .loop in
-    let a = c .before .before .before .before .args in
+    let l = at-loop-from-with-ends c .loop in
+    let a = entry-from-with-ends c .args in
     let x = stored c in
-    (omega arith, rw length-set (l .inv .1), fill-next (l .place) (lineAt (a .c .now) (a .v .now) (a .start) (a .stride) (toZ w64 (ofZ w64 (a .first))) (toZ w64 (ofZ w64 (a .last)))) _ _ _ (l .inv .2) (omega (arith, c .before .before .before .before .pre .0)) x)
+    (omega arith, rw length-set (l .inv .1), fill-next (l .place) (lineAt (a .c .now) (a .v .now) (a .start) (a .stride) (toZ w64 (ofZ w64 (a .first))) (toZ w64 (ofZ w64 (a .last)))) _ _ _ (l .inv .2) (omega (arith, entry-from-with-ends c .pre .0)) x)
 
 same-length : tie.Need-same-length Inv-loop μ-loop
-same-length c = c .before .loop .inv .1 ∙ sym (c .before .before .pre .0)
+same-length c = c .before .loop .inv .1 ∙ sym (entry-from-loop c .pre .0)
 
 returns : tie.Need-returns Inv-loop μ-loop
 returns c =
-    let b = c .before .before in
+    let b = entry-from-loop c in
     let a = b .args in
     let e : c .before .loop .place ≡ 3 = omega arith in
     (rw e at (c .before .loop .inv .2)) ∙ ap (λ y. table 3 (lineAt (a .c .now) (a .v .now) (a .start) (a .stride) (toZ w64 (ofZ w64 (a .first))) (toZ w64 (ofZ w64 (a .last)))) ++ y) (drop-of-length-le (a .out .now) {i = 3} (omega (arith, b .pre .0))) ∙ append-nil _

@@ -28,21 +28,28 @@ loop-holds c = (omega arith, refl, refl)
 mul-c-2 : tie.Need-mul-c-2 Inv-loop μ-loop
 mul-c-2 c = let h = c .before .before .before .before .pre in fits (search sizes depth 20) tt
 
+-- places of the code, seen from later ones
+abbrev entry-from-c2 : tie.After-c2 Inv-loop μ-loop → tie.Start Inv-loop μ-loop
+entry-from-c2 c = c .before .before .before .before .before
+
+abbrev line-weight-from-c2 : tie.After-c2 Inv-loop μ-loop → tie.After-line-weight Inv-loop μ-loop
+line-weight-from-c2 c = c .before .before
+
 mul-c-4 : tie.Need-mul-c-4 Inv-loop μ-loop
-mul-c-4 c = let h = c .before .before .before .before .before .pre in fits (search sizes depth 20) tt
+mul-c-4 c = let h = entry-from-c2 c .pre in fits (search sizes depth 20) tt
 
 add-c : tie.Need-add-c Inv-loop μ-loop
-add-c c = let h = c .before .before .before .before .before .pre in fits (search sizes depth 20) tt
+add-c c = let h = entry-from-c2 c .pre in fits (search sizes depth 20) tt
 
 mul-c-5 : tie.Need-mul-c-5 Inv-loop μ-loop
-mul-c-5 c = let h = c .before .before .before .before .before .pre in let ω = c .before .before .line-weight .ensures in fits (search sizes depth 20) tt
+mul-c-5 c = let h = entry-from-c2 c .pre in let ω = line-weight-from-c2 c .line-weight .ensures in fits (search sizes depth 20) tt
 
 loop-again : tie.Need-loop-again Inv-loop μ-loop
 loop-again c =
-    let b = c .before .before .before .before .before in
+    let b = entry-from-c2 c in
     let l = c .before .before .before .before .loop in
     let h = b .pre in
-    let ω = c .before .before .line-weight .ensures in
+    let ω = line-weight-from-c2 c .line-weight .ensures in
     let cw = toZ w64 (ofZ w64 (b .args .cw)) in
     let ce = toZ w64 (ofZ w64 (b .args .ce)) in
     (omega arith, rw length-set (l .inv .1), fill-next (l .q) (weighedWind cw ce) _ _ _ (l .inv .2) (omega arith) (exact (search exacts depth 20) tt ∙ wind-is (b .args .cw) (b .args .ce) (l .q) (omega arith) ∙ ap₂ (λ x y. weighedWind x y (l .q)) (sym (toZ-ofZ (b .fits .cw))) (sym (toZ-ofZ (b .fits .ce)))))

@@ -9,11 +9,15 @@ sub-result c = let h = c .before .pre in fits (search sizes depth 20) tt
 returns : tie.Need-returns
 returns c = let b = c .before in let h = b .pre in let a = b .args in bounded (search exacts depth 20) tt tt (ends-last (a .sum) (a .first) (a .last) (a .place) (c .if1 .taken))
 
+-- places of the code, seen from later ones
+abbrev entry-from-then2 : tie.Then2 → tie.Start
+entry-from-then2 c = c .before .before
+
 add-result : tie.Need-add-result
-add-result c = let h = c .before .before .pre in fits (search sizes depth 20) tt
+add-result c = let h = entry-from-then2 c .pre in fits (search sizes depth 20) tt
 
 returns-2 : tie.Need-returns-2
-returns-2 c = let b = c .before .before in let h = b .pre in let a = b .args in bounded (search exacts depth 20) tt tt (ends-first (a .sum) (a .first) (a .last) (a .place) (c .if2 .taken))
+returns-2 c = let b = entry-from-then2 c in let h = b .pre in let a = b .args in bounded (search exacts depth 20) tt tt (ends-first (a .sum) (a .first) (a .last) (a .place) (c .if2 .taken))
 
 returns-3 : tie.Need-returns-3
 returns-3 c = let b = c .before .before in let h = b .pre in let a = b .args in bounded (search exacts depth 20) tt tt (ends-inner (a .sum) (a .first) (a .last) (a .place) (c .before .if1 .left) (c .if2 .left))

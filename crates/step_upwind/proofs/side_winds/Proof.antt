@@ -14,12 +14,16 @@ use Rattle.step_upwind.proofs.side_winds.Tie as tie
 mul-n : tie.Need-mul-n
 mul-n c = record { fits = omega (arith, elements-le (c .before .args .shape) (c .before .pre .0 .admits)) }
 
+-- places of the code, seen from later ones
+abbrev entry-from-south : tie.After-south → tie.Start
+entry-from-south c = c .before .before .before
+
 -- the four faces are there
-inside : (c : tie.After-south) → FaceOwners (c .before .before .before .args .shape) (c .before .before .before .args .e) (c .before .west .result) (c .south .result)
-inside c = face-owners (c .before .before .before .pre .0) (c .before .west .ensures) (c .south .ensures)
+inside : (c : tie.After-south) → FaceOwners (entry-from-south c .args .shape) (entry-from-south c .args .e) (c .before .west .result) (c .south .result)
+inside c = face-owners (entry-from-south c .pre .0) (c .before .west .ensures) (c .south .ensures)
 
 shared-slice-copy-out-t10 : tie.Need-shared-slice-copy-out-t10
-shared-slice-copy-out-t10 c = omega (arith, inside c, c .before .before .before .pre .1 .long)
+shared-slice-copy-out-t10 c = omega (arith, inside c, entry-from-south c .pre .1 .long)
 
 cast-t11 : tie.Need-cast-t11
 cast-t11 c = let h = c .t10 .given in fits (search sizes-wide depth 20) tt
@@ -45,7 +49,7 @@ cast-t23 c = let h = c .t22 .given in fits (search sizes-wide depth 20) tt
 returns : tie.Need-returns
 returns c =
     let s = c .before .before .before .before in
-    let a = s .before .before .before .args in
+    let a = entry-from-south s .args in
     let w = windAt (a .wind .now) in
     let n = a .shape .nx * a .shape .ny in
     λ i. (widened _ (c .before .before .before .t10 .given) ∙ ap w (s .before .west .ensures)) i ∷ widened (w (a .e)) (c .before .before .t14 .given) i ∷ (widened _ (c .before .t18 .given) ∙ ap (λ x. w (n + x)) (s .south .ensures)) i ∷ widened (w (n + a .e)) (c .t22 .given) i ∷ []

@@ -26,17 +26,27 @@ loop-holds : tie.Need-loop-holds Inv-loop μ-loop
 unfolding table
 loop-holds c = (omega arith, refl, refl)
 
--- the arrays of the elements behind and ahead
-behind-is : (c : tie.After-north Inv-loop μ-loop) → (c .before .before .before .west .result ∷ c .before .before .before .before .args .e ∷ c .before .south .result ∷ c .before .before .before .before .args .e ∷ []) ≡ behinds (c .before .before .before .before .args .shape) (c .before .before .before .before .args .e)
-behind-is c = λ i. c .before .before .before .west .ensures i ∷ c .before .before .before .before .args .e ∷ c .before .south .ensures i ∷ c .before .before .before .before .args .e ∷ []
+-- places of the code, seen from later ones
+abbrev entry-from-north : tie.After-north Inv-loop μ-loop → tie.Start Inv-loop μ-loop
+entry-from-north c = c .before .before .before .before
 
-ahead-is : (c : tie.After-north Inv-loop μ-loop) → (c .before .before .before .before .args .e ∷ c .before .before .east .result ∷ c .before .before .before .before .args .e ∷ c .north .result ∷ []) ≡ aheads (c .before .before .before .before .args .shape) (c .before .before .before .before .args .e)
-ahead-is c = λ i. c .before .before .before .before .args .e ∷ c .before .before .east .ensures i ∷ c .before .before .before .before .args .e ∷ c .north .ensures i ∷ []
+abbrev west-from-north : tie.After-north Inv-loop μ-loop → tie.After-west Inv-loop μ-loop
+west-from-north c = c .before .before .before
+
+abbrev east-from-north : tie.After-north Inv-loop μ-loop → tie.After-east Inv-loop μ-loop
+east-from-north c = c .before .before
+
+-- the arrays of the elements behind and ahead
+behind-is : (c : tie.After-north Inv-loop μ-loop) → (west-from-north c .west .result ∷ entry-from-north c .args .e ∷ c .before .south .result ∷ entry-from-north c .args .e ∷ []) ≡ behinds (entry-from-north c .args .shape) (entry-from-north c .args .e)
+behind-is c = λ i. west-from-north c .west .ensures i ∷ entry-from-north c .args .e ∷ c .before .south .ensures i ∷ entry-from-north c .args .e ∷ []
+
+ahead-is : (c : tie.After-north Inv-loop μ-loop) → (entry-from-north c .args .e ∷ east-from-north c .east .result ∷ entry-from-north c .args .e ∷ c .north .result ∷ []) ≡ aheads (entry-from-north c .args .shape) (entry-from-north c .args .e)
+ahead-is c = λ i. entry-from-north c .args .e ∷ east-from-north c .east .ensures i ∷ entry-from-north c .args .e ∷ c .north .ensures i ∷ []
 
 upwind-start-requires : tie.Need-upwind-start-requires Inv-loop μ-loop
 upwind-start-requires c κs =
     let n = c .before .before .before in
-    let b = n .before .before .before .before in
+    let b = entry-from-north n in
     let s = c .before .before .loop .side in
     let small = elements-le (b .args .shape) (b .pre .admits) in (
       subst (λ (l : List ℕ). getD l s 0 < mostElements) (sym (behind-is n)) (omega (arith, small, behind-inside (b .args .shape) (b .args .e) (b .pre) s (omega arith))),
@@ -50,16 +60,16 @@ loop-again : tie.Need-loop-again Inv-loop μ-loop
 loop-again c =
     let l = c .before .before .before .loop in
     let n = c .before .before .before .before in
-    let a = n .before .before .before .before .args in
+    let a = entry-from-north n .args in
     let s = l .side in
-    let behind : List ℕ = n .before .before .before .west .result ∷ a .e ∷ n .before .south .result ∷ a .e ∷ [] in
-    let ahead : List ℕ = a .e ∷ n .before .before .east .result ∷ a .e ∷ n .north .result ∷ [] in
+    let behind : List ℕ = west-from-north n .west .result ∷ a .e ∷ n .before .south .result ∷ a .e ∷ [] in
+    let ahead : List ℕ = a .e ∷ east-from-north n .east .result ∷ a .e ∷ n .north .result ∷ [] in
     (omega arith, rw length-set (l .inv .1), fill-next (l .side) _ _ _ _ (l .inv .2) (omega arith) (c .upwind-start .ensures ∙ ap (λ z. upwindStart z (getD behind s 0) (getD ahead s 0) (getD lasts s 0)) (toZ-ofZ (record { sfits = c .before .upwind-start-arg .given }))))
 
 returns : tie.Need-returns Inv-loop μ-loop
 returns c =
     let n = c .before .before in
-    let a = n .before .before .before .before .args in
+    let a = entry-from-north n .args in
     let e : c .before .loop .side ≡ 4 = omega arith in
     (rw e at (c .before .loop .inv .2)) ∙ append-nil _ ∙ (λ i. table 4 (λ s. upwindStart (at (a .c .now) s) (getD (behind-is n i) s 0) (getD (ahead-is n i) s 0) (getD lasts s 0)))
 

@@ -16,9 +16,13 @@ use Rattle.step_upwind.proofs.tendencies.Tie as tie
 side-winds-requires : tie.Need-side-winds-requires
 side-winds-requires c κs = (c .pre .0, c .pre .1 .1 .1)
 
+-- places of the code, seen from later ones
+abbrev entry-from-starts : tie.After-starts → tie.Start
+entry-from-starts c = c .before .before .before
+
 -- where the upwind values begin, by the winds that were read
-begun : (c : tie.After-starts) → c .starts .result ≡ table 4 (sideStart (c .before .before .before .args .shape) (sideWinds (c .before .before .before .args .shape) (windAt (c .before .before .before .args .wind .now)) (c .before .before .before .args .e)) (c .before .before .before .args .e))
-begun c = let a = c .before .before .before .args in c .starts .ensures ∙ ap (λ w. table 4 (sideStart (a .shape) w (a .e))) (c .before .before .side-winds .ensures)
+begun : (c : tie.After-starts) → c .starts .result ≡ table 4 (sideStart (entry-from-starts c .args .shape) (sideWinds (entry-from-starts c .args .shape) (windAt (entry-from-starts c .args .wind .now)) (entry-from-starts c .args .e)) (entry-from-starts c .args .e))
+begun c = let a = entry-from-starts c .args in c .starts .ensures ∙ ap (λ w. table 4 (sideStart (a .shape) w (a .e))) (c .before .before .side-winds .ensures)
 
 upwind-values-requires : tie.Need-upwind-values-requires
 upwind-values-requires c κs =

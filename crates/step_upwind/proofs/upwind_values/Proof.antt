@@ -22,12 +22,16 @@ loop-holds : tie.Need-loop-holds Inv-loop μ-loop
 unfolding table
 loop-holds c = (omega arith, refl, refl)
 
--- what a turn reads is within the stage
-place-is : (c : tie.In-loop Inv-loop μ-loop) → getD (c .before .before .args .starts .now) (c .before .loop .m / 3) 0 + stride (c .before .loop .m) * (c .before .loop .m % 3) ≡ upwindPlace (c .before .before .args .starts .now) (c .before .loop .m)
-place-is c = let m = c .before .loop .m in ap (λ n. getD (c .before .before .args .starts .now) (m / 3) 0 + n * (m % 3)) (stride-is m (omega arith))
+-- places of the code, seen from later ones
+abbrev entry-from-in-loop : tie.In-loop Inv-loop μ-loop → tie.Start Inv-loop μ-loop
+entry-from-in-loop c = c .before .before
 
-reach : (c : tie.In-loop Inv-loop μ-loop) → getD (c .before .before .args .starts .now) (c .before .loop .m / 3) 0 + stride (c .before .loop .m) * (c .before .loop .m % 3) < length (c .before .before .args .phi .now)
-reach c = subst (λ (n : ℕ). n < length (c .before .before .args .phi .now)) (sym (place-is c)) (c .before .before .pre .reach (c .before .loop .m) (omega arith))
+-- what a turn reads is within the stage
+place-is : (c : tie.In-loop Inv-loop μ-loop) → getD (entry-from-in-loop c .args .starts .now) (c .before .loop .m / 3) 0 + stride (c .before .loop .m) * (c .before .loop .m % 3) ≡ upwindPlace (entry-from-in-loop c .args .starts .now) (c .before .loop .m)
+place-is c = let m = c .before .loop .m in ap (λ n. getD (entry-from-in-loop c .args .starts .now) (m / 3) 0 + n * (m % 3)) (stride-is m (omega arith))
+
+reach : (c : tie.In-loop Inv-loop μ-loop) → getD (entry-from-in-loop c .args .starts .now) (c .before .loop .m / 3) 0 + stride (c .before .loop .m) * (c .before .loop .m % 3) < length (entry-from-in-loop c .args .phi .now)
+reach c = subst (λ (n : ℕ). n < length (entry-from-in-loop c .args .phi .now)) (sym (place-is c)) (entry-from-in-loop c .pre .reach (c .before .loop .m) (omega arith))
 
 shared-slice-copy-out-u : tie.Need-shared-slice-copy-out-u Inv-loop μ-loop
 shared-slice-copy-out-u c = reach (c .before)
