@@ -22,9 +22,28 @@ use Rattle.step.proofs.CheckLaws.{Stepping, stepping, plain-refused, re
 use Rattle.step.proofs.step.Statement.{statement}
 use Rattle.step.proofs.step.Tie as tie
 
+-- places of the code, seen from later ones
+abbrev entry-from-enum-told : tie.After-enum-told → tie.Start
+entry-from-enum-told c = c .before .before .before .before .before
+
+abbrev entry-from-elements-length : tie.After-elements-length → tie.Start
+entry-from-elements-length c = entry-from-enum-told (c .before .before)
+
+abbrev entry-from-work-needed : tie.After-work-needed → tie.Start
+entry-from-work-needed c = entry-from-elements-length (c .before)
+
+abbrev enum-told-from-elements-length : tie.After-elements-length → tie.After-enum-told
+enum-told-from-elements-length c = c .before .before
+
+abbrev work-needed-from-step-arg3 : tie.After-step-arg3 → tie.After-work-needed
+work-needed-from-step-arg3 c = c .before .before .before
+
+abbrev step-from-work : tie.After-work → tie.After-step
+step-from-work c = c .before .before .before .before
+
 -- what the checks have shown
-facts : (c : tie.After-enum-told) → Stepping (c .before .before .before .before .before .args .shape) (c .before .before .before .before .before .args .tracer) (c .before .before .before .before .before .args .field .now) (c .before .before .before .before .before .args .wind .now) (length (c .before .before .before .before .before .args .report .now)) (length (c .before .before .before .before .before .args .work .now))
-facts c = stepping (c .before .before .before .before .before .args .shape) (c .before .before .before .before .before .args .tracer) (c .before .before .before .before .before .args .field .now) (c .before .before .before .before .before .args .wind .now) (length (c .before .before .before .before .before .args .report .now)) (length (c .before .before .before .before .before .args .work .now)) (sym (c .before .before .check .ensures) ∙ ap outcome (c .enum-told .given .1))
+facts : (c : tie.After-enum-told) → Stepping (entry-from-enum-told c .args .shape) (entry-from-enum-told c .args .tracer) (entry-from-enum-told c .args .field .now) (entry-from-enum-told c .args .wind .now) (length (entry-from-enum-told c .args .report .now)) (length (entry-from-enum-told c .args .work .now))
+facts c = stepping (entry-from-enum-told c .args .shape) (entry-from-enum-told c .args .tracer) (entry-from-enum-told c .args .field .now) (entry-from-enum-told c .args .wind .now) (length (entry-from-enum-told c .args .report .now)) (length (entry-from-enum-told c .args .work .now)) (sym (c .before .before .check .ensures) ∙ ap outcome (c .enum-told .given .1))
 
 tracer-start-requires : tie.Need-tracer-start-requires
 tracer-start-requires c κs = let h = facts c in (h .shape, h .tracer)
@@ -33,22 +52,22 @@ elements-length-requires : tie.Need-elements-length-requires
 elements-length-requires c κs = facts (c .before) .shape
 
 -- the tracer's part ends within the field, and what is lent is that part
-ends : (c : tie.After-elements-length) → (c .before .tracer-start .result + c .elements-length .result ≤ length (c .before .before .before .before .before .before .before .args .field .now)) × (c .before .tracer-start .result + c .elements-length .result ≤ 327680)
+ends : (c : tie.After-elements-length) → (c .before .tracer-start .result + c .elements-length .result ≤ length (entry-from-elements-length c .args .field .now)) × (c .before .tracer-start .result + c .elements-length .result ≤ 327680)
 ends c =
-    let a = c .before .before .before .before .before .before .before .args in
-    let h = facts (c .before .before) in
+    let a = entry-from-elements-length c .args in
+    let h = facts (enum-told-from-elements-length c) in
     let r = tracer-room (a .shape) (a .tracer) (h .tracer) in
     (omega (arith, r, h .room, c .before .tracer-start .ensures, c .elements-length .ensures, part-is-elements quadratic (a .shape)), omega (arith, r, field-is (a .shape), field-le (a .shape) (h .shape), c .before .tracer-start .ensures, c .elements-length .ensures, part-is-elements quadratic (a .shape)))
 
-lent-is : (c : tie.After-elements-length) → take (c .before .tracer-start .result + c .elements-length .result - c .before .tracer-start .result) (drop (c .before .tracer-start .result) (c .before .before .before .before .before .before .before .args .field .now)) ≡ part quadratic (c .before .before .before .before .before .before .before .args .shape) (c .before .before .before .before .before .before .before .args .tracer) (c .before .before .before .before .before .before .before .args .field .now)
+lent-is : (c : tie.After-elements-length) → take (c .before .tracer-start .result + c .elements-length .result - c .before .tracer-start .result) (drop (c .before .tracer-start .result) (entry-from-elements-length c .args .field .now)) ≡ part quadratic (entry-from-elements-length c .args .shape) (entry-from-elements-length c .args .tracer) (entry-from-elements-length c .args .field .now)
 unfolding part
-lent-is c = rw (add-sub-cancel-left (c .before .tracer-start .result) (c .elements-length .result), c .before .tracer-start .ensures, c .elements-length .ensures, ← (part-is-elements quadratic (c .before .before .before .before .before .before .before .args .shape)))
+lent-is c = rw (add-sub-cancel-left (c .before .tracer-start .result) (c .elements-length .result), c .before .tracer-start .ensures, c .elements-length .ensures, ← (part-is-elements quadratic (entry-from-elements-length c .args .shape)))
 
 add-end : tie.Need-add-end
 add-end c = record { fits = omega (arith, ends c) }
 
 work-needed-requires : tie.Need-work-needed-requires
-work-needed-requires c κs = facts (c .before .before) .shape
+work-needed-requires c κs = facts (enum-told-from-elements-length c) .shape
 
 mul-step : tie.Need-mul-step
 mul-step c = omega (arith, ends (c .before))
@@ -57,24 +76,24 @@ part-step-end : tie.Need-part-step-end
 part-step-end c = omega (arith, ends (c .before))
 
 -- the numbers of work that are needed are there, and they alone are lent
-works-there : (c : tie.After-work-needed) → c .work-needed .result ≤ length (c .before .before .before .before .before .before .before .before .args .work .now)
+works-there : (c : tie.After-work-needed) → c .work-needed .result ≤ length (entry-from-work-needed c .args .work .now)
 works-there c = omega (arith, c .work-needed .ensures, facts (c .before .before .before) .works)
 
-lent-long : (c : tie.After-work-needed) → length (take (c .work-needed .result) (c .before .before .before .before .before .before .before .before .args .work .now)) ≡ c .work-needed .result
-lent-long c = length-take-le (c .work-needed .result) (c .before .before .before .before .before .before .before .before .args .work .now) (works-there c)
+lent-long : (c : tie.After-work-needed) → length (take (c .work-needed .result) (entry-from-work-needed c .args .work .now)) ≡ c .work-needed .result
+lent-long c = length-take-le (c .work-needed .result) (entry-from-work-needed c .args .work .now) (works-there c)
 
 slice-relend-prefix-step : tie.Need-slice-relend-prefix-step
 slice-relend-prefix-step c = works-there (c .before .before)
 
 slice-aggregate-step : tie.Need-slice-aggregate-step
-slice-aggregate-step c = sym (lent-long (c .before .before .before))
+slice-aggregate-step c = sym (lent-long (work-needed-from-step-arg3 c))
 
 step-requires : tie.Need-step-requires
 step-requires c κs =
     let t = c .before .before .before .before in
     let a = c .before .before .before .before .before .before .before .before .before .before .before .args in
     let h = facts (c .before .before .before .before .before .before) in
-    (h .shape, (ap length (lent-is t) ∙ part-length quadratic (a .shape) (a .tracer) (a .field .now) (h .tracer) (h .room) ∙ part-is-elements quadratic (a .shape), (omega (arith, ap (total quadratic (a .shape)) (lent-is t), h .within-limit), (h .wind-range, (h .reports, omega (arith, lent-long (c .before .before .before), c .before .before .before .work-needed .ensures))))))
+    (h .shape, (ap length (lent-is t) ∙ part-length quadratic (a .shape) (a .tracer) (a .field .now) (h .tracer) (h .room) ∙ part-is-elements quadratic (a .shape), (omega (arith, ap (total quadratic (a .shape)) (lent-is t), h .within-limit), (h .wind-range, (h .reports, omega (arith, lent-long (work-needed-from-step-arg3 c), work-needed-from-step-arg3 c .work-needed .ensures))))))
 
 returns : tie.Need-returns
 returns c =
@@ -98,9 +117,9 @@ returns-2 c =
     let l = lent (a .wind .now) (a .report .now) (a .work .now) in
     let w = windAt (a .wind .now) in
     let p = part quadratic (a .shape) (a .tracer) (a .field .now) in
-    let d = c .before .before .before .before .step .ensures in
+    let d = step-from-work c .step .ensures in
     let m = c .before .before .before .before .before .before .before .before in
-    let x = c .before .before .before .before .step .last .1 .1 .1 .0 in
+    let x = step-from-work c .step .last .1 .1 .1 .0 in
     let back : length x ≡ length (take (m .work-needed .result) (a .work .now)) = c .work .given .0 in
     let e = h .answers in
     let q = call-accepted (a .shape) (a .tracer) (step l) (a .field .now) _ e in (

@@ -32,59 +32,84 @@ Inv-loop work₀ part shape n fluxes masses outflows start₀ e₀ work start e 
 abbrev μ-loop : tie.MeasureT-loop
 μ-loop work₀ part shape n fluxes masses outflows start₀ e₀ work start e = n - e
 
+-- places of the code, seen from later ones
+abbrev entry-from-struct-known : tie.After-struct-known Inv-loop μ-loop → tie.Start Inv-loop μ-loop
+entry-from-struct-known c = c .before .before
+
+abbrev entry-from-outflows-start : tie.After-outflows-start Inv-loop μ-loop → tie.Start Inv-loop μ-loop
+entry-from-outflows-start c = entry-from-struct-known (c .before .before .before)
+
+abbrev entry-from-in-loop : tie.In-loop Inv-loop μ-loop → tie.Start Inv-loop μ-loop
+entry-from-in-loop c = entry-from-outflows-start (c .before .before)
+
+abbrev fluxes-start-from-outflows-start : tie.After-outflows-start Inv-loop μ-loop → tie.After-fluxes-start Inv-loop μ-loop
+fluxes-start-from-outflows-start c = c .before .before
+
+abbrev outflows-start-from-in-loop : tie.In-loop Inv-loop μ-loop → tie.After-outflows-start Inv-loop μ-loop
+outflows-start-from-in-loop c = c .before .before
+
+abbrev in-loop-from-mass : tie.After-mass Inv-loop μ-loop → tie.In-loop Inv-loop μ-loop
+in-loop-from-mass c = c .before .before
+
+abbrev in-loop-from-outflow : tie.After-outflow Inv-loop μ-loop → tie.In-loop Inv-loop μ-loop
+in-loop-from-outflow c = in-loop-from-mass (c .before .before .before)
+
+abbrev mass-from-outflow : tie.After-outflow Inv-loop μ-loop → tie.After-mass Inv-loop μ-loop
+mass-from-outflow c = c .before .before .before
+
 mul-n : tie.Need-mul-n Inv-loop μ-loop
-mul-n c = record { fits = omega (arith, elements-le (c .before .before .args .shape) (c .before .before .pre .admits)) }
+mul-n c = record { fits = omega (arith, elements-le (entry-from-struct-known c .args .shape) (entry-from-struct-known c .pre .admits)) }
 
 loop-holds : tie.Need-loop-holds Inv-loop μ-loop
 loop-holds c = (omega arith, omega arith, written-none _ _ _ _ _)
 
-placed : (c : tie.In-loop Inv-loop μ-loop) → Placed (c .before .before .before .before .before .before .before .args .shape) (c .before .loop .e)
-placed c = record { admits = c .before .before .before .before .before .before .before .pre .admits; inside = omega arith }
+placed : (c : tie.In-loop Inv-loop μ-loop) → Placed (entry-from-in-loop c .args .shape) (c .before .loop .e)
+placed c = record { admits = entry-from-in-loop c .pre .admits; inside = omega arith }
 
 -- where the sections start, and that a turn's numbers are within part and work
-sizes : (c : tie.In-loop Inv-loop μ-loop) → let s = c .before .before in
-    let a = s .before .before .before .before .before .args in
-    (s .before .before .fluxes-start .result ≡ fluxesStart (a .shape)) × (s .before .masses-start .result ≡ massesStart (a .shape))
+sizes : (c : tie.In-loop Inv-loop μ-loop) → let s = outflows-start-from-in-loop c in
+    let a = entry-from-outflows-start s .args in
+    (fluxes-start-from-outflows-start s .fluxes-start .result ≡ fluxesStart (a .shape)) × (s .before .masses-start .result ≡ massesStart (a .shape))
     × (s .outflows-start .result ≡ outflowsStart (a .shape)) × (c .before .loop .e < elements (a .shape))
     × (c .before .loop .start + 10 ≤ length (a .part .now)) × (c .before .loop .start + 10 ≤ mostUsed)
     × Room (a .shape) (length (a .work .now))
 sizes c =
-    let s = c .before .before in
-    let b = s .before .before .before .before .before in
+    let s = outflows-start-from-in-loop c in
+    let b = entry-from-outflows-start s in
     let g = b .args .shape in
     let h = b .pre in
     let l = c .before .loop in
     let p = placed c .inside in
-    (s .before .before .fluxes-start .ensures, s .before .masses-start .ensures, s .outflows-start .ensures, p, omega (arith, p, l .inv .1, h .numbers, elements-are g), omega (arith, p, l .inv .1, places-le g (h .admits)), work-room g (h .admits) (h .long))
+    (fluxes-start-from-outflows-start s .fluxes-start .ensures, s .before .masses-start .ensures, s .outflows-start .ensures, p, omega (arith, p, l .inv .1, h .numbers, elements-are g), omega (arith, p, l .inv .1, places-le g (h .admits)), work-room g (h .admits) (h .long))
 
 mass-requires : tie.Need-mass-requires Inv-loop μ-loop
 mass-requires c κs =
     let i = c .before in
     let s = i .before .loop .start in
-    part-size 10 s (s + 10 - s) (i .before .before .before .before .before .before .before .args .part .now) (add-sub-cancel-left s 10) (omega (arith, sizes i))
+    part-size 10 s (s + 10 - s) (entry-from-in-loop i .args .part .now) (add-sub-cancel-left s 10) (omega (arith, sizes i))
 
 part-outflow-end : tie.Need-part-outflow-end Inv-loop μ-loop
 part-outflow-end c = let i = c .before .before .before in omega (arith, sizes i, i .before .loop .inv .2 .long)
 
 -- the fluxes that are lent are as they were
-lent : (c : tie.In-loop Inv-loop μ-loop) → let s = c .before .before in
-    let a = s .before .before .before .before .before .args in
-    take (s .before .masses-start .result - s .before .before .fluxes-start .result) (drop (s .before .before .fluxes-start .result) (c .before .loop .work)) ≡ lentFluxes (a .shape) (a .work .now)
+lent : (c : tie.In-loop Inv-loop μ-loop) → let s = outflows-start-from-in-loop c in
+    let a = entry-from-outflows-start s .args in
+    take (s .before .masses-start .result - fluxes-start-from-outflows-start s .fluxes-start .result) (drop (fluxes-start-from-outflows-start s .fluxes-start .result) (c .before .loop .work)) ≡ lentFluxes (a .shape) (a .work .now)
 lent c =
-    let s = c .before .before in
-    let g = s .before .before .before .before .before .args .shape in
+    let s = outflows-start-from-in-loop c in
+    let g = entry-from-outflows-start s .args .shape in
     let h = sizes c in
-    lent-kept (fluxesStart g) (faces g) (s .before .before .fluxes-start .result) (s .before .masses-start .result - s .before .before .fluxes-start .result) (h .0) (omega (arith, h)) (c .before .loop .inv .2) (omega (arith, h)) (λ i p q u v. omega (arith, h)) (λ i p q u v. omega (arith, h))
+    lent-kept (fluxesStart g) (faces g) (fluxes-start-from-outflows-start s .fluxes-start .result) (s .before .masses-start .result - fluxes-start-from-outflows-start s .fluxes-start .result) (h .0) (omega (arith, h)) (c .before .loop .inv .2) (omega (arith, h)) (λ i p q u v. omega (arith, h)) (λ i p q u v. omega (arith, h))
 
 outflow-requires : tie.Need-outflow-requires Inv-loop μ-loop
 outflow-requires c κs =
     let i = c .before .before .before .before in
-    let s = i .before .before in
-    let b = s .before .before .before .before .before in
+    let s = outflows-start-from-in-loop i in
+    let b = entry-from-outflows-start s in
     let l = i .before .loop in (
       placed i,
       (
-        part-size (faces (b .args .shape)) (s .before .before .fluxes-start .result) (s .before .masses-start .result - s .before .before .fluxes-start .result) (l .work) (omega (arith, sizes i)) (omega (arith, sizes i, l .inv .2 .long)),
+        part-size (faces (b .args .shape)) (fluxes-start-from-outflows-start s .fluxes-start .result) (s .before .masses-start .result - fluxes-start-from-outflows-start s .fluxes-start .result) (l .work) (omega (arith, sizes i)) (omega (arith, sizes i, l .inv .2 .long)),
         subst (AllWithin fluxSize) (sym (lent i)) (b .pre .small),
       ),
     )
@@ -99,23 +124,23 @@ mass-made c =
 
 mass-small : (c : tie.After-mass Inv-loop μ-loop) → c .mass .result ≤ limit
 mass-small c =
-    let i = c .before .before in
-    omega (arith, mass-made c, i .before .before .before .before .before .before .before .pre .within-limit (i .before .loop .e) (placed i .inside))
+    let i = in-loop-from-mass c in
+    omega (arith, mass-made c, entry-from-in-loop i .pre .within-limit (i .before .loop .e) (placed i .inside))
 
 slice-set-from-out : tie.Need-slice-set-from-out Inv-loop μ-loop
-slice-set-from-out c = let i = c .before .before .before .before .before in omega (arith, sizes i, i .before .loop .inv .2 .long)
+slice-set-from-out c = let i = in-loop-from-outflow c in omega (arith, sizes i, i .before .loop .inv .2 .long)
 
 cast-work : tie.Need-cast-work Inv-loop μ-loop
-cast-work c = record { sfits = omega (arith, mass-small (c .before .before .before)) }
+cast-work c = record { sfits = omega (arith, mass-small (mass-from-outflow c)) }
 
 slice-set-from-work : tie.Need-slice-set-from-work Inv-loop μ-loop
-slice-set-from-work c = let i = c .before .before .before .before .before in rw length-set (omega (arith, sizes i, i .before .loop .inv .2 .long))
+slice-set-from-work c = let i = in-loop-from-outflow c in rw length-set (omega (arith, sizes i, i .before .loop .inv .2 .long))
 
 loop-again : tie.Need-loop-again Inv-loop μ-loop
 loop-again c =
-    let m = c .before .before .before in
-    let i = m .before .before in
-    let a = i .before .before .before .before .before .before .before .args in
+    let m = mass-from-outflow c in
+    let i = in-loop-from-mass m in
+    let a = entry-from-in-loop i .args in
     let g = a .shape in
     let l = i .before .loop in (
       omega arith,

@@ -29,66 +29,82 @@ mul-n c = record { fits = omega (arith, elements-le (c .before .args .shape) (c 
 loop-holds : tie.Need-loop-holds Inv-loop μ-loop
 loop-holds c = (omega arith, written-none _ _ _ _ _)
 
-placed : (c : tie.In-loop Inv-loop μ-loop) → Placed (c .before .before .before .args .shape) (c .before .loop .e)
-placed c = record { admits = c .before .before .before .pre .0 .admits; inside = omega arith }
+-- places of the code, seen from later ones
+abbrev entry-from-in-loop : tie.In-loop Inv-loop μ-loop → tie.Start Inv-loop μ-loop
+entry-from-in-loop c = c .before .before .before
 
-small : (c : tie.In-loop Inv-loop μ-loop) → elements (c .before .before .before .args .shape) ≤ mostElements
-small c = elements-le (c .before .before .before .args .shape) (c .before .before .before .pre .0 .admits)
+abbrev entry-from-limited-face : tie.After-limited-face Inv-loop μ-loop → tie.Start Inv-loop μ-loop
+entry-from-limited-face c = entry-from-in-loop (c .before .before)
+
+abbrev entry-from-limited-face2 : tie.After-limited-face2 Inv-loop μ-loop → tie.Start Inv-loop μ-loop
+entry-from-limited-face2 c = entry-from-limited-face (c .before .before)
+
+abbrev in-loop-from-limited-face : tie.After-limited-face Inv-loop μ-loop → tie.In-loop Inv-loop μ-loop
+in-loop-from-limited-face c = c .before .before
+
+abbrev in-loop-from-limited-face2 : tie.After-limited-face2 Inv-loop μ-loop → tie.In-loop Inv-loop μ-loop
+in-loop-from-limited-face2 c = in-loop-from-limited-face (c .before .before)
+
+placed : (c : tie.In-loop Inv-loop μ-loop) → Placed (entry-from-in-loop c .args .shape) (c .before .loop .e)
+placed c = record { admits = entry-from-in-loop c .pre .0 .admits; inside = omega arith }
+
+small : (c : tie.In-loop Inv-loop μ-loop) → elements (entry-from-in-loop c .args .shape) ≤ mostElements
+small c = elements-le (entry-from-in-loop c .args .shape) (entry-from-in-loop c .pre .0 .admits)
 
 limited-face-requires : tie.Need-limited-face-requires Inv-loop μ-loop
 limited-face-requires c κs =
     let i = c .before in
-    let b = i .before .before .before in
+    let b = entry-from-in-loop i in
     let p = placed i in
     (b .pre .0, (omega (arith, p .inside), (p .inside, omega (arith, c .east .ensures, east-in p))))
 
 add-limited-face : tie.Need-add-limited-face Inv-loop μ-loop
-add-limited-face c = let i = c .before .before in record { fits = omega (arith, placed i .inside, small i) }
+add-limited-face c = let i = in-loop-from-limited-face c in record { fits = omega (arith, placed i .inside, small i) }
 
 north-requires : tie.Need-north-requires Inv-loop μ-loop
-north-requires c κs = placed (c .before .before)
+north-requires c κs = placed (in-loop-from-limited-face c)
 
 limited-face-requires-2 : tie.Need-limited-face-requires-2 Inv-loop μ-loop
 limited-face-requires-2 c κs =
     let i = c .before .before .before in
-    let b = i .before .before .before in
+    let b = entry-from-in-loop i in
     let p = placed i in
     (b .pre .0, (omega (arith, p .inside), (p .inside, omega (arith, c .north .ensures, north-in p))))
 
 -- the limited fluxes of a turn, which fit the report
-east-made : (c : tie.After-limited-face Inv-loop μ-loop) → Are limit (c .limited-face .result) (limitedEast (c .before .before .before .before .before .args .shape) (c .before .before .before .before .before .args .work .now) (c .before .before .before .loop .e))
+east-made : (c : tie.After-limited-face Inv-loop μ-loop) → Are limit (c .limited-face .result) (limitedEast (entry-from-limited-face c .args .shape) (entry-from-limited-face c .args .work .now) (c .before .before .before .loop .e))
 east-made c =
-    let i = c .before .before in
-    let b = i .before .before .before in
+    let i = in-loop-from-limited-face c in
+    let b = entry-from-in-loop i in
     let e = i .before .loop .e in
     record { same = c .limited-face .ensures .same ∙ ap (limitedFace (b .args .shape) (b .args .work .now) e e) (c .before .east .ensures); bound = b .pre .0 .easts e (placed i .inside) }
 
-north-made : (c : tie.After-limited-face2 Inv-loop μ-loop) → Are limit (c .limited-face2 .result) (limitedNorth (c .before .before .before .before .before .before .before .args .shape) (c .before .before .before .before .before .before .before .args .work .now) (c .before .before .before .before .before .loop .e))
+north-made : (c : tie.After-limited-face2 Inv-loop μ-loop) → Are limit (c .limited-face2 .result) (limitedNorth (entry-from-limited-face2 c .args .shape) (entry-from-limited-face2 c .args .work .now) (c .before .before .before .before .before .loop .e))
 north-made c =
-    let i = c .before .before .before .before in
-    let b = i .before .before .before in
+    let i = in-loop-from-limited-face2 c in
+    let b = entry-from-in-loop i in
     let e = i .before .loop .e in
     record { same = c .limited-face2 .ensures .same ∙ ap (limitedFace (b .args .shape) (b .args .work .now) (northFace (b .args .shape) e) e) (c .before .north .ensures); bound = b .pre .0 .norths e (placed i .inside) }
 
 add-report : tie.Need-add-report Inv-loop μ-loop
-add-report c = let i = c .before .before .before .before in record { fits = omega (arith, placed i .inside, small i) }
+add-report c = let i = in-loop-from-limited-face2 c in record { fits = omega (arith, placed i .inside, small i) }
 
 mul-report : tie.Need-mul-report Inv-loop μ-loop
-mul-report c = let i = c .before .before .before .before in record { fits = omega (arith, placed i .inside, small i) }
+mul-report c = let i = in-loop-from-limited-face2 c in record { fits = omega (arith, placed i .inside, small i) }
 
 slice-set-from-report : tie.Need-slice-set-from-report Inv-loop μ-loop
-slice-set-from-report c = let i = c .before .before .before .before in omega (arith, placed i .inside, i .before .loop .inv .1 .long, i .before .before .before .pre .1)
+slice-set-from-report c = let i = in-loop-from-limited-face2 c in omega (arith, placed i .inside, i .before .loop .inv .1 .long, entry-from-in-loop i .pre .1)
 
 mul-t10 : tie.Need-mul-t10 Inv-loop μ-loop
-mul-t10 c = let i = c .before .before .before .before in record { fits = omega (arith, placed i .inside, small i) }
+mul-t10 c = let i = in-loop-from-limited-face2 c in record { fits = omega (arith, placed i .inside, small i) }
 
 slice-set-from-report-2 : tie.Need-slice-set-from-report-2 Inv-loop μ-loop
-slice-set-from-report-2 c = let i = c .before .before .before .before in rw length-set (omega (arith, placed i .inside, i .before .loop .inv .1 .long, i .before .before .before .pre .1))
+slice-set-from-report-2 c = let i = in-loop-from-limited-face2 c in rw length-set (omega (arith, placed i .inside, i .before .loop .inv .1 .long, entry-from-in-loop i .pre .1))
 
 loop-again : tie.Need-loop-again Inv-loop μ-loop
 loop-again c =
-    let i = c .before .before .before .before in
-    let b = i .before .before .before in
+    let i = in-loop-from-limited-face2 c in
+    let b = entry-from-in-loop i in
     let g = b .args .shape in
     let w = b .args .work .now in
     let x = east-made (c .before .before) in

@@ -25,15 +25,19 @@ face-sum-requires c κs =
     let h = c .before .pre in
     (h .0, omega (arith, begun c, start-room (a .shape) (a .c) (a .behind) (a .ahead) (a .last) (a .stride) (h .1 .1 .1 .1) (h .1 .1 .0) (h .1 .1 .1 .0)))
 
+-- places of the code, seen from later ones
+abbrev entry-from-face-sum : tie.After-face-sum → tie.Start
+entry-from-face-sum c = c .before .before
+
 mul-result : tie.Need-mul-result
-mul-result c = let h = c .before .before .pre .1 .0 in let s = c .face-sum .ensures in fits (search sizes depth 20) tt
+mul-result c = let h = entry-from-face-sum c .pre .1 .0 in let s = c .face-sum .ensures in fits (search sizes depth 20) tt
 
 div-result : tie.Need-div-result
-div-result c = let h = c .before .before .pre .1 .0 in let s = c .face-sum .ensures in (lit< tt, fits (search sizes depth 20) tt)
+div-result c = let h = entry-from-face-sum c .pre .1 .0 in let s = c .face-sum .ensures in (lit< tt, fits (search sizes depth 20) tt)
 
 returns : tie.Need-returns
 returns c =
-    let b = c .before .before in
+    let b = entry-from-face-sum c in
     let a = b .args in
     let h = b .pre .1 .0 in
     let s = are-eq (c .face-sum .ensures) (ap (λ x. stagesSum (a .shape) (a .work .now) x (a .stride)) (begun (c .before))) in

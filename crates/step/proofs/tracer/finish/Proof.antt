@@ -27,47 +27,57 @@ Inv-loop part₀ work report shape n start₀ psi₀ e₀ part start psi e = (e 
 abbrev μ-loop : tie.MeasureT-loop
 μ-loop part₀ work report shape n start₀ psi₀ e₀ part start psi e = n - e
 
+-- places of the code, seen from later ones
+abbrev entry-from-struct-known : tie.After-struct-known Inv-loop μ-loop → tie.Start Inv-loop μ-loop
+entry-from-struct-known c = c .before .before
+
+abbrev entry-from-at-loop : tie.At-loop Inv-loop μ-loop → tie.Start Inv-loop μ-loop
+entry-from-at-loop c = entry-from-struct-known (c .before .before)
+
+abbrev entry-from-in-loop : tie.In-loop Inv-loop μ-loop → tie.Start Inv-loop μ-loop
+entry-from-in-loop c = entry-from-at-loop (c .before)
+
 mul-n : tie.Need-mul-n Inv-loop μ-loop
-mul-n c = record { fits = omega (arith, elements-le (c .before .before .args .shape) (c .before .before .pre .0)) }
+mul-n c = record { fits = omega (arith, elements-le (entry-from-struct-known c .args .shape) (entry-from-struct-known c .pre .0)) }
 
 loop-holds : tie.Need-loop-holds Inv-loop μ-loop
 unfolding blocks
 loop-holds c = (omega arith, omega arith, omega arith, refl)
 
-placed : (c : tie.In-loop Inv-loop μ-loop) → Placed (c .before .before .before .before .before .args .shape) (c .before .loop .e)
-placed c = record { admits = c .before .before .before .before .before .pre .0; inside = omega arith }
+placed : (c : tie.In-loop Inv-loop μ-loop) → Placed (entry-from-in-loop c .args .shape) (c .before .loop .e)
+placed c = record { admits = entry-from-in-loop c .pre .0; inside = omega arith }
 
 -- the part has ten numbers an element, and keeps them
 ten : (c : tie.Start Inv-loop μ-loop) → length (c .args .part .now) ≡ elements (c .args .shape) * 10
 ten c = c .pre .1 .0 ∙ elements-are (c .args .shape)
 
-long : (c : tie.At-loop Inv-loop μ-loop) → length (c .loop .part) ≡ length (c .before .before .before .before .args .part .now)
+long : (c : tie.At-loop Inv-loop μ-loop) → length (c .loop .part) ≡ length (entry-from-at-loop c .args .part .now)
 long c =
-    let b = c .before .before .before .before in
+    let b = entry-from-at-loop c in
     let a = b .args in
     ap length (c .loop .inv .3) ∙ length-filled 10 (newElement (a .shape) (a .work .now) (a .report .now)) (new-length (a .shape) (a .work .now) (a .report .now)) (c .loop .e) (a .part .now) (omega (arith, c .loop .inv .0, ten b))
 
 -- a turn's numbers are within part and work
-psi-is : (c : tie.At-loop Inv-loop μ-loop) → c .loop .psi ≡ stageStart (c .before .before .before .before .args .shape) 3 + c .loop .e * 9
+psi-is : (c : tie.At-loop Inv-loop μ-loop) → c .loop .psi ≡ stageStart (entry-from-at-loop c .args .shape) 3 + c .loop .e * 9
 psi-is c = omega (arith, c .loop .inv .2, c .before .stage-start .ensures)
 
 ends : (c : tie.In-loop Inv-loop μ-loop) → let l = c .before .loop in
-    let a = c .before .before .before .before .before .args in
+    let a = entry-from-in-loop c .args in
     (l .start + 10 ≤ length (l .part)) × (l .psi + 9 ≤ length (a .work .now)) × (l .start + 10 ≤ mostUsed) × (l .psi + 9 ≤ mostUsed)
 ends c =
     let l = c .before .loop in
-    let b = c .before .before .before .before .before in
+    let b = entry-from-in-loop c in
     let p = placed c .inside in
     let k = places-le (b .args .shape) (b .pre .0) in
     (omega (arith, p, l .inv .1, long (c .before), ten b), omega (arith, p, psi-is (c .before), b .pre .1 .1 .long), omega (arith, p, l .inv .1, k), omega (arith, p, psi-is (c .before), k))
 
 target-requires : tie.Need-target-requires Inv-loop μ-loop
-target-requires c κs = (c .before .before .before .before .before .pre .1 .1, placed c)
+target-requires c κs = (entry-from-in-loop c .pre .1 .1, placed c)
 
 close-requires : tie.Need-close-requires Inv-loop μ-loop
 close-requires c κs =
     let i = c .before .before .before in
-    let b = i .before .before .before .before .before in
+    let b = entry-from-in-loop i in
     let l = i .before .loop in (
       part-size 10 (l .start) (l .start + 10 - l .start) (l .part) (add-sub-cancel-left (l .start) 10) (ends i .0),
       (lent-values (b .args .shape) (b .args .work .now) (b .args .report .now) (l .e) (l .psi) (l .psi + 9 - l .psi) (b .pre .1 .1) (placed i .inside) (psi-is (i .before)) (add-sub-cancel-left (l .psi) 9) .0, c .before .before .target .ensures .1),
@@ -76,7 +86,7 @@ close-requires c κs =
 loop-again : tie.Need-loop-again Inv-loop μ-loop
 loop-again c =
     let i = c .before .before .before .before .before .before in
-    let b = i .before .before .before .before .before in
+    let b = entry-from-in-loop i in
     let a = b .args in
     let l = i .before .loop in
     let w = a .work .now in
