@@ -1,3 +1,4 @@
+-- A value after levelling and truncation: the sum is read back exactly, and the branch on its sign is the positive part.
 use mathlib.Core.Path.{_≡_, sym, ap, _∙_}
 use borrow.Author.Needs.{needs}
 use native.Mathlib.Omega.{arith}

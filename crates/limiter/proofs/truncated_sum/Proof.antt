@@ -1,3 +1,4 @@
+-- After k turns the sum is the weighted sum of the first k truncated values, by one law for a turn.
 use mathlib.Core.Path.{_≡_, refl, _∙_}
 use Prim.Native.Nat.{_≤_, _-_, _+_, _*_}
 use borrow.Author.Needs.{needs}

@@ -1,3 +1,4 @@
+-- After k turns the sum is that of the first k weighted values; its size is bounded over their number.
 use mathlib.Core.Path.{_≡_, refl, sym, _∙_}
 use Prim.Native.Nat.{_≤_, _-_, _*_}
 use borrow.Author.Needs.{needs}
