@@ -14,15 +14,15 @@ use Rattle.rules.specs.declared.Shape.{Shape}
 use Rattle.rules.specs.declared.Refusal.{Refusal}
 use Rattle.rules.specs.declared.Refusal.the-variants.{NoFieldFile, BadShape, BadOffsets, ShortBuffer, WindOutOfRange, UnsoundTracer, NoSuchTracer, NoSuchElement, TotalAboveLimit, MassTooSmall}
 use Rattle.rules.specs.Answers.{Answer, accepted, refused, number}
-use Rattle.rules.specs.Field.{Admitted}
+use Rattle.rules.specs.Field.{Admitted, limit}
 use Rattle.c_numbers.specs.Numbers.{faceOf, numberOr, Small, shapeNumber, shapeOr, AdmittedShape}
 
 -- ---- an answered number, and a refusal's, as signed numbers
-pub number-is : (a : Answer ℕ) (n : ℕ) → Small a → a ≡ accepted n → Are 100000000 (toZ w64 n) (numberOr a)
+pub number-is : (a : Answer ℕ) (n : ℕ) → Small a → a ≡ accepted n → Are limit (toZ w64 n) (numberOr a)
 unfolding numberOr
 number-is a n h e =
     let small = h .small n e in
-    record { same = toZ-pos w64 (omega arith) ∙ sym (ap numberOr e); bound = subst (λ x. Within 100000000 (numberOr x)) (sym e) (record { within = small }) }
+    record { same = toZ-pos w64 (omega arith) ∙ sym (ap numberOr e); bound = subst (λ x. Within limit (numberOr x)) (sym e) (record { within = small }) }
 
 number-le : (r : Refusal) → number r ≤ 10
 number-le NoFieldFile = omega arith
@@ -52,14 +52,14 @@ negated-is n r e =
 
 -- what a function f of answers gives for a refusal
 refusal-of : {A : Type 0} (f : Answer A → ℤ) (a : Answer A) (z : ℤ) (r : Refusal) → f (refused (number r)) ≡ negℤ (pos (number r)) → Are 10 z (negℤ (pos (number r)))
-    → a ≡ refused (number r) → Are 100000000 (toZ w64 (ofZ w64 z)) (f a)
+    → a ≡ refused (number r) → Are limit (toZ w64 (ofZ w64 z)) (f a)
 refusal-of f a z r e h q = are-eq (record { same = read-back w64 h tt; bound = within-le (h .bound) (omega arith) }) (sym (ap f q ∙ e))
 
-pub refusal-is : (a : Answer ℕ) (z : ℤ) (r : Refusal) → Are 10 z (negℤ (pos (number r))) → a ≡ refused (number r) → Are 100000000 (toZ w64 (ofZ w64 z)) (numberOr a)
+pub refusal-is : (a : Answer ℕ) (z : ℤ) (r : Refusal) → Are 10 z (negℤ (pos (number r))) → a ≡ refused (number r) → Are limit (toZ w64 (ofZ w64 z)) (numberOr a)
 unfolding numberOr
 refusal-is a z r = refusal-of numberOr a z r refl
 
-pub shape-refusal-is : (a : Answer Shape) (z : ℤ) (r : Refusal) → Are 10 z (negℤ (pos (number r))) → a ≡ refused (number r) → Are 100000000 (toZ w64 (ofZ w64 z)) (shapeOr a)
+pub shape-refusal-is : (a : Answer Shape) (z : ℤ) (r : Refusal) → Are 10 z (negℤ (pos (number r))) → a ≡ refused (number r) → Are limit (toZ w64 (ofZ w64 z)) (shapeOr a)
 unfolding shapeOr
 shape-refusal-is a z r = refusal-of shapeOr a z r refl
 
@@ -67,7 +67,7 @@ shape-refusal-is a z r = refusal-of shapeOr a z r refl
 pub shape-le : (g : Shape) → Admitted g → shapeNumber g ≤ 540736
 shape-le g h = omega (arith, h .nx-small, h .ny-small, h .tracers-small)
 
-pub shape-is : (a : Answer Shape) (g : Shape) → AdmittedShape a → a ≡ accepted g → Are 100000000 (toZ w64 (shapeNumber g)) (shapeOr a)
+pub shape-is : (a : Answer Shape) (g : Shape) → AdmittedShape a → a ≡ accepted g → Are limit (toZ w64 (shapeNumber g)) (shapeOr a)
 unfolding shapeOr
 shape-is a g h e =
     let small = shape-le g (h .small g e) in

@@ -3,6 +3,7 @@ ghost use mathlib.Core.Path.{_≡_};
 ghost use lib.IntN.{pos, negℤ};
 ghost use Rattle.whole.specs.Bound.{Are};
 ghost use Rattle.rules.specs.Answers.{number, outcome, reading, fileAnswer};
+ghost use Rattle.rules.specs.Field.{limit};
 ghost use Rattle.c_numbers.specs.Numbers.{faceOf, code, numberOr, Small, shapeOr, AdmittedShape};
 use rules::Face;
 use rules::FileRead;
@@ -31,7 +32,7 @@ fn negated(r: Refusal) -> i64
 // The number that is answered, or the refusal's number negated. A leaf: the number is at most the limit.
 pub fn number_or(answer: Reading) -> i64
     requires { ⌜ Small (reading answer) ⌝ }
-    ensures { λ r. ⌜ Are 100000000 r (numberOr (reading answer)) ⌝ }
+    ensures { λ r. ⌜ Are limit r (numberOr (reading answer)) ⌝ }
 {
     match answer {
         Reading::Number(n) => n as i64,
@@ -42,7 +43,7 @@ pub fn number_or(answer: Reading) -> i64
 // The shape that is answered, as nx + 256 ny + 65536 K, or the refusal's number negated. A leaf: the shape is admitted.
 pub fn shape_or(answer: FileRead) -> i64
     requires { ⌜ AdmittedShape (fileAnswer answer) ⌝ }
-    ensures { λ r. ⌜ Are 100000000 r (shapeOr (fileAnswer answer)) ⌝ }
+    ensures { λ r. ⌜ Are limit r (shapeOr (fileAnswer answer)) ⌝ }
 {
     match answer {
         FileRead::Found(shape) => (shape.nx + 256 * shape.ny + 65536 * shape.tracers) as i64,

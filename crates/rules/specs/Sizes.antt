@@ -1,6 +1,6 @@
 -- The sizes of the numbers that a step and a closing make, as the leaves of the code ask and ensure them. They are round, and loose where
 -- they only keep sums within 64 bits; `StageBounds` has the sharp ones.
-use Prim.Native.Nat.{ℕ, _*_}
+use Prim.Native.Nat.{ℕ, _+_, _*_}
 use Rattle.rules.specs.Field.{limit}
 
 -- elements of an admitted grid
@@ -30,15 +30,16 @@ fluxSize = 27 * stageSize
 abbrev pub outflowSize : ℕ
 outflowSize = 4 * fluxSize
 
--- ---- closing: the values that it is given, what levelling adds to them, what they are then, and the target
+-- ---- closing: the values that it is given, what levelling adds to them (their mean and a 36th of the target), what they are then, and the
+-- target
 abbrev pub tentativeSize : ℕ
 tentativeSize = 92 * limit
 
 abbrev pub shiftSize : ℕ
-shiftSize = 9213888890
+shiftSize = tentativeSize + 13888890
 
 abbrev pub levelledSize : ℕ
-levelledSize = 18413888890
+levelledSize = tentativeSize + shiftSize
 
 abbrev pub targetSize : ℕ
 targetSize = 5 * limit
