@@ -26,6 +26,12 @@ carried-sum g x held zero e = sym (+ℤ-idr (held e))
 carried-sum g x held (suc f) e = ap (λ y. y -ℤ only (eqb (behind g f) e) (x f) +ℤ only (eqb (ahead g f) e) (x f)) (carried-sum g x held f e)
     ∙ arrange (held e) (sumℤ f (moved g x e)) (negℤ (only (eqb (behind g f) e) (x f))) (only (eqb (ahead g f) e) (x f))
 
+-- "where both are the same element nothing changes"
+pub carried-same : (g : Shape) (x held : ℕ → ℤ) (f e : ℕ) → behind g f ≡ ahead g f → carried g x (suc f) held e ≡ carried g x f held e
+unfolding carried
+carried-same g x held f e h = ap (λ b. carried g x f held e -ℤ only (eqb b e) (x f) +ℤ only (eqb (ahead g f) e) (x f)) h
+    ∙ -ℤ-+ℤ-cancel (carried g x f held e) (only (eqb (ahead g f) e) (x f))
+
 -- ---- an amount at one element changes the sum by that amount
 pub sum-plus : (n t : ℕ) (x : ℤ) (held : ℕ → ℤ) → t < n → sumℤ n (λ e. held e +ℤ only (eqb t e) x) ≡ sumℤ n held +ℤ x
 sum-plus n t x held h = sumℤ-add n held (λ e. only (eqb t e) x)
