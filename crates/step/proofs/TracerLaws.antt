@@ -10,7 +10,6 @@ use native.Mathlib.Omega.{arith}
 use lib.Dec.{le→leb}
 use lib.IntN.{ℤ, pos, _+ℤ_, _-ℤ_}
 use lib.ListN.{length, getD, List·getD-eq-default}
-use lib.Seq.{ext-getD}
 use lib.Signed.{nonNeg, _≤ℤ_}
 use Rattle.whole.specs.Bound.{Within}
 use Rattle.whole.specs.Parts.{positive, negative}
@@ -20,7 +19,7 @@ use Rattle.whole.specs.Written.{Written}
 use lib.Arith.{digits-div, digits-mod}
 use Rattle.whole.proofs.Cases.{cond-ind}
 use Rattle.whole.proofs.BoundLaws.{within-le, within-pos}
-use Rattle.whole.proofs.OverwriteLaws.{part-at, part-size, length-overwrite, overwrite-inside, overwrite-above}
+use Rattle.whole.proofs.OverwriteLaws.{part-at, part-size, front-written}
 use Rattle.whole.proofs.TableLaws.{getD-table, blocks-cong}
 use Rattle.whole.proofs.WholeLaws.{positive-pos, abs-parts}
 use Rattle.rules.specs.declared.Shape.{Shape}
@@ -263,18 +262,8 @@ module _ {g : Shape} {wind : List ℤ} {p : List ℕ} (given : Given g wind p) w
       size = report-length quadratic g hx hy c p s
 
       pub reported : r′ ≡ overwrite 0 (report quadratic g c p s) r
-      reported = ext-getD (pos 0) r′ (overwrite 0 (report quadratic g c p s) r)
-          (v .long ∙ sym (length-overwrite 0 (report quadratic g c p s) r fits))
-          (λ i l. go i (decLt i (faces g)))
-        where
-          fits : 0 + length (report quadratic g c p s) ≤ length r
-          fits = omega (arith, size)
-
-          go : (i : ℕ) → Dec (i < faces g) → at r′ i ≡ at (overwrite 0 (report quadratic g c p s) r) i
-          go i (yes l) = report-at i l ∙ sym (ap (at (overwrite 0 (report quadratic g c p s) r)) (sym (zero-add i)) ∙ overwrite-inside 0 (report quadratic g c p s) r fits (pos 0) i (omega (arith, size)))
-          go i (no l) =
-              let n : i ≡ 0 + (length (report quadratic g c p s) + (i - faces g)) = omega (arith, size) in
-              v .kept i (λ x y. omega arith) (λ x y. omega arith) ∙ ap (at r) n ∙ sym (overwrite-above 0 (report quadratic g c p s) r fits (pos 0) (i - faces g)) ∙ ap (at (overwrite 0 (report quadratic g c p s) r)) (sym n)
+      reported = front-written (pos 0) (report quadratic g c p s) r r′ (v .long) (omega (arith, size))
+          (λ i l. report-at i (omega (arith, size))) (λ i l. v .kept i (λ x y. omega (arith, size)) (λ x y. omega (arith, size)))
 
       -- ---- the targets
       target-same : (e : ℕ) → e < elements g → target g (massOf g w) (at r′) e ≡ target g (mass quadratic p) R e

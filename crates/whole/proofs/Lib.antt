@@ -9,3 +9,5 @@ pub mod WrittenLaws
 pub mod BoundLaws
 pub mod Sizes
 pub mod FloorLaws
+pub mod NearestLaws
+pub mod NearestOne

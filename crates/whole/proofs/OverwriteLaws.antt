@@ -98,6 +98,23 @@ module _ {ℓ} {A : Type ℓ} where
   table-const zero a = refl
   table-const (suc n) a = ap (λ l. l ++ (a ∷ [])) (table-const n a) ∙ replicate-append-replicate n 1 a ∙ ap (λ k. replicate k a) (add-one n)
 
+  -- a list with ys in front, and beyond it the numbers of xs
+  pub front-written : (d : A) (ys xs new : List A) → length new ≡ length xs → length ys ≤ length xs → ((i : ℕ) → i < length ys → getD new i d ≡ getD ys i d)
+      → ((i : ℕ) → length ys ≤ i → getD new i d ≡ getD xs i d) → new ≡ overwrite 0 ys xs
+  front-written d ys xs new size room front beyond = ext-getD d new (overwrite 0 ys xs) (size ∙ sym (length-overwrite 0 ys xs fits)) (λ i l. go i (decLt i (length ys)))
+    where
+      fits : 0 + length ys ≤ length xs
+      fits = omega arith
+
+      here : (i j : ℕ) → i ≡ j → getD (overwrite 0 ys xs) j d ≡ getD (overwrite 0 ys xs) i d
+      here i j e = ap (λ k. getD (overwrite 0 ys xs) k d) (sym e)
+
+      go : (i : ℕ) → Dec (i < length ys) → getD new i d ≡ getD (overwrite 0 ys xs) i d
+      go i (yes l) = front i l ∙ sym (overwrite-inside 0 ys xs fits d i l) ∙ here i (0 + i) (omega arith)
+      go i (no l) =
+          let n : i ≡ 0 + (length ys + (i - length ys)) = omega arith in
+          beyond i (omega arith) ∙ ap (λ k. getD xs k d) n ∙ sym (overwrite-above 0 ys xs fits d (i - length ys)) ∙ here i (0 + (length ys + (i - length ys))) n
+
 -- a part written within a part: b numbers into the n from place a on
 pub overwrite-part : {A : Type 0} (a n b : ℕ) (x l : List A) → a + n ≤ length l → b + length x ≤ n
     → overwrite a (overwrite b x (take n (drop a l))) l ≡ overwrite (a + b) x l

@@ -1,13 +1,16 @@
 -- Two stretches of a list, written one place or one block after the other.
 use mathlib.Core.Path.{_≡_, refl, sym, ap, subst, _∙_}
-use mathlib.Core.List.{List}
+use mathlib.Core.List.{List, _++_}
 use Prim.Native.Nat.{ℕ, _+_, _-_, _≤_, _<_}
+use native.Mathlib.Nat.{zero-add}
 use native.Mathlib.Decide.{decLt}
 use native.Mathlib.Omega.{arith}
 use lib.IntN.{ℤ, pos}
-use lib.ListN.{length, getD, set, take, drop, length-set}
-use lib.Seq.{getD-set-same, getD-set-other, ext-getD}
-use Rattle.whole.proofs.OverwriteLaws.{part-at, part-size}
+use lib.ListN.{length, getD, set, take, drop, length-set, length-append, List·getD-append}
+use lib.Seq.{getD-set-same, getD-set-other, getD-append-add, ext-getD}
+use Rattle.whole.specs.Table.{table, overwrite}
+use Rattle.whole.proofs.TableLaws.{length-table, getD-table}
+use Rattle.whole.proofs.OverwriteLaws.{part-at, part-size, front-written}
 use Rattle.whole.specs.Written.{Apart, Written}
 
 pub written-none : (a b : ℕ) (f h : ℕ → ℤ) (l : List ℤ) → Written a b 0 f h l l
@@ -75,6 +78,22 @@ pub written-turn : {a b n a₁ b₁ : ℕ} {old mid new : List ℤ} (f h : ℕ �
     → Written a b n f h old mid → Written a₁ b₁ m f′ h′ mid new → ((k : ℕ) → k < m → f′ k ≡ f (n + k)) → ((k : ℕ) → k < m → h′ k ≡ h (n + k)) → Written a b n₁ f h old new
 written-turn {a} {b} {n} f h m f′ h′ n₁ ea eb en room p q ef eh =
     written-moved a b n₁ refl refl en (written-block f h m f′ h′ (omega arith) p (written-moved (a + n) (b + n) m ea eb refl q) ef eh)
+
+-- two stretches at the front, one after the other
+pub written-front : {n : ℕ} {f h : ℕ → ℤ} {old new : List ℤ} → Written 0 n n f h old new → n + n ≤ length old → new ≡ overwrite 0 (table n f ++ table n h) old
+written-front {n} {f} {h} {old} {new} w room = front-written (pos 0) (table n f ++ table n h) old new (w .long) (omega (arith, size))
+    (λ i l. place (getD new i (pos 0) ≡ getD (table n f ++ table n h) i (pos 0)) n n i (first i) (second i) (omega (arith, size)))
+    (λ i l. w .kept i (λ x y. omega (arith, size)) (λ x y. omega (arith, size)))
+  where
+    size : length (table n f ++ table n h) ≡ n + n
+    size = simp length-append (omega (arith, length-table n f, length-table n h))
+
+    first : (i : ℕ) → i < n → getD new i (pos 0) ≡ getD (table n f ++ table n h) i (pos 0)
+    first i l = ap (λ k. getD new k (pos 0)) (sym (zero-add i)) ∙ w .first i l ∙ sym (List·getD-append (table n f) (table n h) (pos 0) i (omega (arith, length-table n f)) ∙ getD-table n f i (pos 0) l)
+
+    second : (i : ℕ) → i - n < n → n + (i - n) ≡ i → getD new i (pos 0) ≡ getD (table n f ++ table n h) i (pos 0)
+    second i l e = ap (λ k. getD new k (pos 0)) (sym e) ∙ w .second (i - n) l ∙ sym (getD-table n h (i - n) (pos 0) l) ∙ sym (getD-append-add (table n f) (table n h) (i - n) (pos 0))
+        ∙ ap (λ k. getD (table n f ++ table n h) k (pos 0)) (omega (arith, length-table n f))
 
 -- a part of the list that is apart from both stretches
 pub part-kept : {a b n : ℕ} {f h : ℕ → ℤ} {old new : List ℤ} (s w k : ℕ) → Written a b n f h old new → k ≡ w → s + w ≤ length old

@@ -3,4 +3,5 @@ pub mod Parts
 pub mod Sum
 pub mod Table
 pub mod Bound
+pub mod Nearest
 pub mod Written
