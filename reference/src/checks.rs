@@ -13,6 +13,10 @@ pub const NO_ELEMENT: u8 = 8;
 pub const OVER_LIMIT: u8 = 9;
 pub const TOO_MUCH: u8 = 10;
 
+// Request 2026-01.
+pub const BAD_RECORD: u8 = 11;
+pub const NOT_FINITE: u8 = 12;
+
 /// Refusal 4 for one slice. "Surplus is left alone", so longer is good.
 pub fn long_enough<T>(slice: &[T], need: usize) -> Result<(), u8> {
     if slice.len() < need {

@@ -3,6 +3,7 @@
 
 use crate::calls::Way;
 use crate::checks::{node_weight, weighted_numbers};
+use crate::import_generator::records;
 use crate::lists::{Answer, Call, State};
 use crate::rng::Rng;
 use crate::shape::{Shape, LIMIT, NODES};
@@ -43,10 +44,11 @@ impl Maker {
     fn any(&mut self) -> Call {
         match self.rng.below(100) {
             0..=29 => Call::Step(self.smoke()),
-            30..=47 => self.wind(),
-            48..=53 => Call::Load(self.smoke(), self.numbers()),
-            54..=67 => self.emission(),
-            68..=81 => self.withdrawal(),
+            30..=42 => self.wind(),
+            43..=50 => self.import(),
+            51..=55 => Call::Load(self.smoke(), self.numbers()),
+            56..=68 => self.emission(),
+            69..=81 => self.withdrawal(),
             82..=85 => {
                 let (i, j) = self.element();
                 Call::Mass(self.smoke(), i, j)
@@ -71,6 +73,11 @@ impl Maker {
     fn wind(&mut self) -> Call {
         let (i, j) = self.element();
         Call::Wind(self.way(), i, j, self.rng.wind())
+    }
+
+    /// An import (request 2026-01), accepted or refused.
+    fn import(&mut self) -> Call {
+        Call::Import(records(&mut self.rng, self.shape.elements()))
     }
 
     /// The number a reading gives.

@@ -1,15 +1,22 @@
 //! Reference implementation of document 01, "Smoke transport with
-//! whole-number TMAR", written from the text alone.
+//! whole-number TMAR", and of request 2026-01, "Wind from the weather
+//! office", of document 02, "Further changes requested by customers". It is
+//! written from the texts alone; no other request is in it.
 //!
 //! Every call answers `Result<_, u8>`; the error is the refusal's number.
-//! Quotations in comments are sentences of document 01.
+//! Quotations in comments are sentences of document 01, or of request
+//! 2026-01 where a comment names it or the module says so.
 
 pub mod calls;
 pub mod checks;
 pub mod closing;
+pub mod face_wind;
 pub mod file;
 pub mod flux;
 pub mod generator;
+pub mod import;
+pub mod import_generator;
+pub mod import_numbers;
 pub mod lists;
 pub mod program;
 pub mod random_file;
@@ -19,6 +26,8 @@ pub mod step;
 pub mod tendency;
 
 pub use calls::{emission, fresh, load, mass, total, wind, withdrawal, Way};
+pub use face_wind::{face_wind, FaceWind};
 pub use file::{read_file, write_file};
+pub use import::import;
 pub use shape::Shape;
 pub use step::step;

@@ -1,6 +1,7 @@
 //! Lists of calls: their script form, and a state that runs them.
 
 use crate::calls::{emission, load, mass, total, wind, withdrawal, Way};
+use crate::import::import;
 use crate::shape::Shape;
 use crate::step::step;
 use std::fmt;
@@ -9,6 +10,10 @@ use std::str::{FromStr, SplitWhitespace};
 #[derive(Clone, Debug, PartialEq, Eq)]
 pub enum Call {
     Wind(Way, usize, usize, i16),
+    /// "The smoke ledger's lists may hold wind imports" (request 2026-01).
+    /// The records stand in the list itself, as a load's numbers do. It names
+    /// no smoke, so like a wind call it is never struck.
+    Import(Vec<u8>),
     Load(usize, Vec<u32>),
     Emission(usize, usize, usize, u64),
     Withdrawal(usize, usize, usize, u64),
@@ -66,6 +71,7 @@ impl State {
         let field = &mut self.field;
         match call {
             Call::Wind(way, i, j, c) => wind(&mut self.wind, nx, ny, k, *way, *i, *j, *c)?,
+            Call::Import(records) => import(&mut self.wind, records, nx, ny, k)?,
             Call::Load(s, numbers) => load(field, numbers, nx, ny, k, *s)?,
             Call::Emission(s, i, j, q) => emission(field, nx, ny, k, *s, *i, *j, *q)?,
             Call::Withdrawal(s, i, j, q) => withdrawal(field, nx, ny, k, *s, *i, *j, *q)?,
@@ -106,6 +112,7 @@ impl fmt::Display for Call {
         match self {
             Call::Wind(Way::East, i, j, c) => write!(f, "wind east {i} {j} {c}"),
             Call::Wind(Way::North, i, j, c) => write!(f, "wind north {i} {j} {c}"),
+            Call::Import(records) => write!(f, "{}", joined("import", records)),
             Call::Load(s, numbers) => write!(f, "{}", joined(&format!("load {s}"), numbers)),
             Call::Emission(s, i, j, q) => write!(f, "emission {s} {i} {j} {q}"),
             Call::Withdrawal(s, i, j, q) => write!(f, "withdrawal {s} {i} {j} {q}"),
@@ -122,6 +129,12 @@ fn next<T: FromStr>(words: &mut SplitWhitespace) -> Result<T, String> {
     word.parse().map_err(|_| format!("bad number {word}"))
 }
 
+/// All words to the end of the line as numbers.
+fn all<T: FromStr>(words: &mut SplitWhitespace) -> Result<Vec<T>, String> {
+    let number = |word: &str| word.parse().map_err(|_| format!("bad number {word}"));
+    words.map(number).collect()
+}
+
 fn parsed_words(words: &mut SplitWhitespace) -> Result<Call, String> {
     let call = match words.next().unwrap_or("") {
         "wind" => {
@@ -132,11 +145,9 @@ fn parsed_words(words: &mut SplitWhitespace) -> Result<Call, String> {
             };
             Call::Wind(way, next(words)?, next(words)?, next(words)?)
         }
-        "load" => {
-            let smoke = next(words)?;
-            let number = |word: &str| word.parse().map_err(|_| format!("bad number {word}"));
-            Call::Load(smoke, words.map(number).collect::<Result<_, _>>()?)
-        }
+        // The records' bytes, each as a number; none at all is a list too.
+        "import" => Call::Import(all(words)?),
+        "load" => Call::Load(next(words)?, all(words)?),
         "emission" => Call::Emission(next(words)?, next(words)?, next(words)?, next(words)?),
         "withdrawal" => Call::Withdrawal(next(words)?, next(words)?, next(words)?, next(words)?),
         "step" => Call::Step(next(words)?),

@@ -57,6 +57,39 @@ const ON_ONE_ROW: Listing = Listing {
     held: [&[2, 62], &[140, 32]],
 };
 
+/// The same numbers as on one row, but the winds come by an import (request
+/// 2026-01): 1024.5, 300.5 and 699.5, halves that go to the even one, and the
+/// second element's record has an east component only. It takes the place of
+/// a wind call that set its north wind. The other imports are refused: by
+/// their first fault, and with nothing written.
+const BY_IMPORT: Listing = Listing {
+    calls: &[
+        ("load 0 0 0 37 0 0 0 0 4 26 0 0 0 15 0 0 0 4 0", "accepted"),
+        ("emission 0 1 0 16", "accepted"),
+        ("emission 1 0 0 172", "accepted"),
+        ("wind north 1 0 55", "accepted"),
+        (
+            "import 1 0 0 0 0 0 2 208 63 0 0 0 0 0 200 178 63 2 0 0 0 0 0 220 197 63",
+            "accepted",
+        ),
+        (
+            "import 1 0 0 0 0 0 4 208 63 0 0 0 0 0 0 0 0 2 0 0 0 0 0 0 248 127",
+            "refused 5",
+        ),
+        ("step 0", "accepted 61 -7 9 0"),
+        ("import 2 0 0 0 0 0 0 240 255 3", "refused 12"),
+        ("step 1", "accepted 28 -4 7 0"),
+        ("withdrawal 0 1 0 107", "accepted"),
+        (
+            "import 1 0 0 0 0 0 0 208 63 0 0 0 0 0 0 208 63 2 0 0 0 0 0 0 208",
+            "refused 11",
+        ),
+        ("import 0 0 0", "refused 11"),
+        ("step 0", "accepted 6 -3 0 0"),
+    ],
+    ..ON_ONE_ROW
+};
+
 /// Winds go all four ways. In the first two steps of smoke 0 the amounts
 /// that leave element (1, 0) are cut, and two faces run against their winds.
 const ALL_FOUR_WAYS: Listing = Listing {
@@ -126,7 +159,7 @@ fn run(listing: &Listing, kept: impl Fn(&Call) -> bool) -> (State, Ledger) {
 
 #[test]
 fn the_whole_lists() {
-    for listing in [ON_ONE_ROW, ALL_FOUR_WAYS] {
+    for listing in [ON_ONE_ROW, BY_IMPORT, ALL_FOUR_WAYS] {
         let (state, ledger) = run(&listing, |_| true);
         assert_eq!(state.field, listing.parts.concat());
         assert_eq!(state.wind, listing.wind);
@@ -136,7 +169,7 @@ fn the_whole_lists() {
 
 #[test]
 fn without_the_calls_on_smoke_1() {
-    for listing in [ON_ONE_ROW, ALL_FOUR_WAYS] {
+    for listing in [ON_ONE_ROW, BY_IMPORT, ALL_FOUR_WAYS] {
         let (state, ledger) = run(&listing, |call| smoke_of(call) != Some(1));
         let (part, held) = (listing.parts[0], listing.held[0]);
         assert_eq!(state.field, [part, &vec![0; part.len()]].concat());

@@ -87,17 +87,20 @@ fn other_smokes_can_be_struck() {
 
 #[test]
 fn lists_meet_every_refusal_they_can() {
-    let mut met = [0; 11];
+    let (mut met, mut imports) = ([0; 13], 0);
     for (seed, &(nx, ny, k)) in SHAPES.iter().cycle().take(80).enumerate() {
         let mut state = State::new(nx, ny, k);
         for call in calls(2000 + seed as u64, (nx, ny, k)) {
-            if let Answer::Refused(number) = state.run(&call) {
-                met[number as usize] += 1;
+            match (&call, state.run(&call)) {
+                (_, Answer::Refused(number)) => met[number as usize] += 1,
+                (Call::Import(_), _) => imports += 1,
+                _ => {}
             }
         }
     }
     assert_eq!((met[1], met[2], met[3], met[6]), (0, 0, 0, 0));
-    for number in [4, 5, 7, 8, 9, 10] {
+    assert!(imports > 500, "{imports} imports accepted");
+    for number in [4, 5, 7, 8, 9, 10, 11, 12] {
         assert!(
             met[number] > 100,
             "refusal {number} met {} times",
@@ -124,6 +127,24 @@ fn a_list_prints_its_answers() {
     let printed = "accepted\naccepted\naccepted\naccepted 63 0\n257\n257\nrefused 7\n\
                    refused 10\nrefused 4\nfield 7 7 7 7 7 7 7 7 7 5\nwind 1024 0\n";
     assert_eq!(reference::lists::output(script).unwrap(), printed);
+}
+
+#[test]
+fn imports_stand_in_scripts() {
+    // −1024 and 1 by kind 1; then a number out of range, one not finite, a
+    // record missing and a byte left over; then 1024 by kind 2, and calm.
+    let script = "grid 1 1 1\nimport 1 0 0 0 0 0 0 208 191 0 0 0 0 0 0 48 63\n\
+                  import 2 0 0 0 0 0 0 224 63\nimport 2 0 0 0 0 0 0 240 127\n\
+                  import\nimport 0 0\n";
+    let refused = "accepted\nrefused 5\nrefused 12\nrefused 11\nrefused 11\n";
+    let printed = |more: &str| reference::lists::output(&(script.to_string() + more)).unwrap();
+    let field = "field 0 0 0 0 0 0 0 0 0 0\n";
+    assert_eq!(printed(""), format!("{refused}{field}wind -1024 1\n"));
+    let east = printed("import 2 0 0 0 0 0 0 208 63\n");
+    assert_eq!(east, format!("{refused}accepted\n{field}wind 1024 0\n"));
+    let calm = printed("import 0\n");
+    assert_eq!(calm, format!("{refused}accepted\n{field}wind 0 0\n"));
+    assert!(reference::lists::output("grid 1 1 1\nimport 256\n").is_err());
 }
 
 /// Slow enough to show a wasteful step, even unoptimised.

@@ -49,15 +49,18 @@ impl Ledger {
                     self.held[start + high] += i64::from(moved);
                 }
             }
+            // "Wind calls and refused calls change nothing." An import is a call
+            // on the wind as well; a reading writes nothing.
             _ => {}
         }
     }
 }
 
-/// "A call is on the smoke whose number it names", a wind call on none.
+/// "A call is on the smoke whose number it names", a wind call or a wind
+/// import on none.
 pub fn smoke_of(call: &Call) -> Option<usize> {
     match call {
-        Call::Wind(..) => None,
+        Call::Wind(..) | Call::Import(_) => None,
         Call::Load(s, _) | Call::Step(s) | Call::Total(s) | Call::Mass(s, _, _) => Some(*s),
         Call::Emission(s, _, _, _) | Call::Withdrawal(s, _, _, _) => Some(*s),
     }
