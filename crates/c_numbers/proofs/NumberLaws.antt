@@ -1,7 +1,7 @@
 -- Answers as numbers.
 use mathlib.Core.Path.{_≡_, refl, sym, ap, subst, _∙_}
 use mathlib.Core.Logic.{_≢_}
-use Prim.Native.Nat.{ℕ, zero, suc, _≤_}
+use Prim.Native.Nat.{ℕ, zero, suc, _≤_, _<_}
 use native.Mathlib.Omega.{arith}
 use lib.IntN.{ℤ, pos, negℤ, _-ℤ_, +ℤ-idl}
 use mir.Syntax.{w64}
@@ -12,7 +12,6 @@ use Rattle.whole.proofs.BoundLaws.{within-neg, within-le}
 use Rattle.whole.proofs.Sizes.{exacts, exact, are-eq, read-back}
 use Rattle.rules.specs.declared.Shape.{Shape}
 use Rattle.rules.specs.declared.Refusal.{Refusal}
-use Rattle.rules.specs.declared.Refusal.the-variants.{NoFieldFile, BadShape, BadOffsets, ShortBuffer, WindOutOfRange, UnsoundTracer, NoSuchTracer, NoSuchElement, TotalAboveLimit, MassTooSmall}
 use Rattle.rules.specs.Answers.{Answer, accepted, refused, number}
 use Rattle.rules.specs.Field.{Admitted, limit}
 use Rattle.c_numbers.specs.Numbers.{faceOf, numberOr, Small, shapeNumber, shapeOr, AdmittedShape}
@@ -24,42 +23,29 @@ number-is a n h e =
     let small = h .small n e in
     record { same = toZ-pos w64 (omega arith) ∙ sym (ap numberOr e); bound = subst (λ x. Within limit (numberOr x)) (sym e) (record { within = small }) }
 
-number-le : (r : Refusal) → number r ≤ 10
-number-le NoFieldFile = omega arith
-number-le BadShape = omega arith
-number-le BadOffsets = omega arith
-number-le ShortBuffer = omega arith
-number-le WindOutOfRange = omega arith
-number-le UnsoundTracer = omega arith
-number-le NoSuchTracer = omega arith
-number-le NoSuchElement = omega arith
-number-le TotalAboveLimit = omega arith
-number-le MassTooSmall = omega arith
+-- a refusal's number is a u8
+pub refusal-small : (n : ℕ) → n < 256 → Within 255 (toZ w64 n)
+refusal-small n l = subst (Within 255) (sym (toZ-pos w64 {n = n} (omega arith))) (record { within = omega arith })
 
-pub refusal-small : (n : ℕ) (r : Refusal) → n ≡ number r → Within 10 (toZ w64 n)
-refusal-small n r e = let l = number-le r in subst (Within 10) (sym (toZ-pos w64 {n = n} (omega arith))) (record { within = omega arith })
-
-below-zero : (z : ℤ) → Within 10 z → toZ w64 (ofZ w64 (pos 0 -ℤ z)) ≡ pos 0 -ℤ z
+below-zero : (z : ℤ) → Within 255 z → toZ w64 (ofZ w64 (pos 0 -ℤ z)) ≡ pos 0 -ℤ z
 below-zero z h = exact (search exacts depth 20) tt
 
-pub negated-is : (n : ℕ) (r : Refusal) → n ≡ number r → Are 10 (toZ w64 (ofZ w64 (pos 0 -ℤ toZ w64 n))) (negℤ (pos (number r)))
-negated-is n r e =
-    let l = number-le r in
-    record {
-      same = below-zero (toZ w64 n) (refusal-small n r e) ∙ ap (λ z. pos 0 -ℤ z) (toZ-pos w64 {n = n} (omega arith)) ∙ +ℤ-idl (negℤ (pos n)) ∙ ap (λ m. negℤ (pos m)) e;
-      bound = within-neg {a = pos (number r)} (record { within = l });
-    }
+pub negated-is : (n : ℕ) (r : Refusal) → n < 256 → n ≡ number r → Are 255 (toZ w64 (ofZ w64 (pos 0 -ℤ toZ w64 n))) (negℤ (pos (number r)))
+negated-is n r l e = record {
+  same = below-zero (toZ w64 n) (refusal-small n l) ∙ ap (λ z. pos 0 -ℤ z) (toZ-pos w64 {n = n} (omega arith)) ∙ +ℤ-idl (negℤ (pos n)) ∙ ap (λ m. negℤ (pos m)) e;
+  bound = within-neg {a = pos (number r)} (record { within = omega arith });
+}
 
 -- what a function f of answers gives for a refusal
-refusal-of : {A : Type 0} (f : Answer A → ℤ) (a : Answer A) (z : ℤ) (r : Refusal) → f (refused (number r)) ≡ negℤ (pos (number r)) → Are 10 z (negℤ (pos (number r)))
+refusal-of : {A : Type 0} (f : Answer A → ℤ) (a : Answer A) (z : ℤ) (r : Refusal) → f (refused (number r)) ≡ negℤ (pos (number r)) → Are 255 z (negℤ (pos (number r)))
     → a ≡ refused (number r) → Are limit (toZ w64 (ofZ w64 z)) (f a)
 refusal-of f a z r e h q = are-eq (record { same = read-back w64 h tt; bound = within-le (h .bound) (omega arith) }) (sym (ap f q ∙ e))
 
-pub refusal-is : (a : Answer ℕ) (z : ℤ) (r : Refusal) → Are 10 z (negℤ (pos (number r))) → a ≡ refused (number r) → Are limit (toZ w64 (ofZ w64 z)) (numberOr a)
+pub refusal-is : (a : Answer ℕ) (z : ℤ) (r : Refusal) → Are 255 z (negℤ (pos (number r))) → a ≡ refused (number r) → Are limit (toZ w64 (ofZ w64 z)) (numberOr a)
 unfolding numberOr
 refusal-is a z r = refusal-of numberOr a z r refl
 
-pub shape-refusal-is : (a : Answer Shape) (z : ℤ) (r : Refusal) → Are 10 z (negℤ (pos (number r))) → a ≡ refused (number r) → Are limit (toZ w64 (ofZ w64 z)) (shapeOr a)
+pub shape-refusal-is : (a : Answer Shape) (z : ℤ) (r : Refusal) → Are 255 z (negℤ (pos (number r))) → a ≡ refused (number r) → Are limit (toZ w64 (ofZ w64 z)) (shapeOr a)
 unfolding shapeOr
 shape-refusal-is a z r = refusal-of shapeOr a z r refl
 

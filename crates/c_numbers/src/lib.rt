@@ -24,7 +24,7 @@ pub fn code(answer: Outcome) -> u8
 
 // A refusal's number negated.
 fn negated(r: Refusal) -> i64
-    ensures { λ z. ⌜ Are 10 z (negℤ (pos (number r))) ⌝ }
+    ensures { λ z. ⌜ Are 255 z (negℤ (pos (number r))) ⌝ }
 {
     0 - (rules::refusal_number(r) as i64)
 }

@@ -14,9 +14,9 @@ use Rattle.whole.proofs.SumLaws.{sum-cong}
 use Rattle.rules.specs.declared.Shape.{Shape}
 use Rattle.rules.specs.declared.Face.{Face}
 use Rattle.rules.specs.Answers.{Answer, accepted, refused, answer, after, plain}
-use Rattle.rules.specs.Field.{quadratic, admitted, elements, faces, onGrid, partLength, fieldLength, withPart, weighted, mass, total, limit, elementsLength}
+use Rattle.rules.specs.Field.{quadratic, admitted, elements, faces, onGrid, partLength, fieldLength, withPart, weighted, mass, total, limit, elementsLength, windInRange}
 use Rattle.rules.specs.Grid.{faceIndex}
-use Rattle.rules.specs.Calls.{windInRange, windReply, windAfter, freshReply, freshField, freshWind, zeroField, zeroWind, load, loaded, loadedElement, loadedValue, lentEnough, checks, done, call}
+use Rattle.rules.specs.Calls.{oneFace, windReply, newWind, windAfter, freshReply, freshField, freshWind, zeroField, zeroWind, load, loaded, loadedElement, loadedValue, lentEnough, checks, done, call}
 use Rattle.rules.proofs.PartLaws.{mass-loaded, length-loaded, part-is-elements}
 use Rattle.rules.proofs.ShapeLaws.{admitted-is}
 use Rattle.field_layout.specs.Places.{Inside}
@@ -30,7 +30,7 @@ module _ (g : Shape) where
 -- ---- wind
 module _ (g : Shape) (f : Face) (w : List ℤ) where
   abbrev WindCall : Answer (Unit {0}) → List ℤ → Type 0
-  WindCall a new = (a ≡ windReply g f w) × (new ≡ windAfter g f w)
+  WindCall a new = (a ≡ windReply g (oneFace f) w) × (new ≡ windAfter g (oneFace f) w)
 
   pub wind-2 : admitted g ≡ false → WindCall (refused 2) w
   unfolding windReply windAfter answer after
@@ -50,7 +50,7 @@ module _ (g : Shape) (f : Face) (w : List ℤ) where
 
   pub wind-done : admitted g ≡ true → faces g ≤ length w → windInRange (f .wind) ≡ true → onGrid g (f .i) (f .j) ≡ true
       → WindCall (accepted tt) (set w (faceIndex g (f .way) (f .i) (f .j)) (f .wind))
-  unfolding windReply windAfter answer after
+  unfolding windReply newWind windAfter answer after
   wind-done a l r o = rw (a, le-leb (faces g) (length w) l, r, o) (refl, refl)
 
 -- ---- fresh

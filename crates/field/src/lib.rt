@@ -1,7 +1,7 @@
 // The calls on a field: fresh, wind, load, emission, withdrawal and the readings.
 // A call has no `requires`: what document 01 doesn't admit is refused by its number, and a refused call writes nothing.
 ghost use Rattle.rules.specs.Field.{quadratic, faces, elements};
-ghost use Rattle.rules.specs.Calls.{load, emission, withdrawal, massReading, totalReading, answers, reads, CallGives, FreshGives, WindGives};
+ghost use Rattle.rules.specs.Calls.{load, emission, withdrawal, massReading, totalReading, answers, reads, CallGives, FreshGives, WindGives, oneFace};
 use field_search::LIMIT;
 use rules::Face;
 use rules::Outcome;
@@ -150,7 +150,7 @@ pub fn fresh(field: &mut [u32], winds: &mut [i16], shape: Shape) -> Outcome
 
 // Wind: one face gets a new wind.
 pub fn wind(winds: &mut [i16], shape: Shape, face: Face) -> Outcome
-    ensures { λ r. ⌜ WindGives shape face (now (winds .entry)) (answers r) (now (winds .exit)) ⌝ }
+    ensures { λ r. ⌜ WindGives shape (oneFace face) (now (winds .entry)) (answers r) (now (winds .exit)) ⌝ }
 {
     let new = face.wind;
     if !field_layout::admitted(shape) {

@@ -9,8 +9,7 @@ use lib.IntN.{ℤ, pos, negsuc}
 use lib.Signed.{ltZ, leZ}
 use Rattle.whole.proofs.OverwriteLaws.{part-room}
 use Rattle.rules.specs.declared.Shape.{Shape}
-use Rattle.rules.specs.Field.{quadratic, elements, element, elementLength, partLength, fieldLength, Admitted, elementsLength}
-use Rattle.rules.specs.Calls.{windInRange}
+use Rattle.rules.specs.Field.{quadratic, elements, element, elementLength, partLength, fieldLength, Admitted, elementsLength, windInRange}
 use Rattle.rules.specs.Sizes.{mostElements}
 use Rattle.rules.proofs.GridLaws.{element-lt}
 use Rattle.rules.proofs.ShapeLaws.{elements-le}

@@ -1,9 +1,8 @@
 // Shapes, and where the numbers of a shape stand in its buffers. All but the tests are leaves, for an admitted shape.
 ghost use mathlib.Core.Path.{_≡_};
 ghost use Prim.Native.Nat.{_*_, _+_, _<_};
-ghost use Rattle.rules.specs.Field.{quadratic, from1to, admitted, elements, faces, onGrid, elementsLength, partLength, fieldLength, Admitted};
+ghost use Rattle.rules.specs.Field.{quadratic, from1to, admitted, elements, faces, onGrid, elementsLength, partLength, fieldLength, Admitted, windInRange};
 ghost use Rattle.rules.specs.Grid.{faceIndex};
-ghost use Rattle.rules.specs.Calls.{windInRange};
 ghost use Rattle.field_layout.specs.Places.{Inside, elementStart};
 use rules::Face;
 use rules::Shape;

@@ -11,7 +11,8 @@ use Rattle.whole.specs.Table.{blocks}
 use Rattle.rules.specs.declared.Shape.{Shape}
 use Rattle.rules.specs.Field.{Kind, faces, partLength, fieldLength}
 use Rattle.rules.specs.Calls.{windAt}
-use Rattle.rules.specs.FieldFile.{bytes32, bytes16, number16, sectionStart, tableStart, fileLength, mark, tail, fileOf}
+use Rattle.rules.specs.Bytes.{bytes32, bytes16, number16}
+use Rattle.rules.specs.FieldFile.{sectionStart, tableStart, fileLength, mark, tail, fileOf}
 use Rattle.file_layout.proofs.LayoutLaws.{tracer-start, length-is}
 use Rattle.file_layout.proofs.NumberLaws.{Has, code32, code16}
 use Rattle.file_layout.proofs.SectionLaws.{length-section, length-section32, has-front, has-behind, cut-off}

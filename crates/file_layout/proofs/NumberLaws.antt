@@ -10,7 +10,7 @@ use lib.IntN.{ℤ, pos, negsuc, natAbs}
 use lib.ListN.{length, getD}
 use Rattle.whole.proofs.Cases.{cond-ind, cond-yes, cond-no}
 use Rattle.file_numbers.proofs.ByteLaws.{length-bytes32, length-bytes16}
-use Rattle.rules.specs.FieldFile.{byteAt, bytes32, number32, bits16, bytes16, number16}
+use Rattle.rules.specs.Bytes.{byteAt, bytes32, number32, bits16, bytes16, number16}
 
 -- every number of the file is a byte
 pub record Bytes (file : List ℕ) : Type 0 where

@@ -10,7 +10,7 @@ use lib.ListN.{length, getD, take, drop, length-append, length-drop, take-append
 use lib.Seq.{length-take-le, getD-take, getD-drop, getD-append-add, drop-drop, ext-getD}
 use Rattle.whole.specs.Table.{blocks}
 use Rattle.whole.proofs.TableLaws.{length-blocks, getD-blocks}
-use Rattle.rules.specs.FieldFile.{byteAt, bytes32, number32}
+use Rattle.rules.specs.Bytes.{byteAt, bytes32, number32}
 use Rattle.file_layout.proofs.NumberLaws.{Bytes, Has, Code, code32}
 
 -- ---- parts one after the other

@@ -5,7 +5,8 @@ ghost use lib.Dec.{eqb};
 ghost use lib.ListN.{length, getD};
 ghost use Rattle.whole.specs.Sum.{all};
 ghost use Rattle.rules.specs.Field.{quadratic, Admitted, faces};
-ghost use Rattle.rules.specs.FieldFile.{byteAt, mark, sectionStart, tableStart, fileLength};
+ghost use Rattle.rules.specs.Bytes.{byteAt};
+ghost use Rattle.rules.specs.FieldFile.{mark, sectionStart, tableStart, fileLength};
 use rules::Shape;
 
 // Where section i starts: the wind's is section 0, tracer s's is section s + 1, and the table comes after the last.

@@ -15,7 +15,7 @@ use mir.Syntax.{w16}
 use mir.Val.{SFits, toZ, ofZ}
 use mir.Facts.{toZ-ofZ, toZ-pos}
 use Rattle.whole.specs.Table.{overwrite}
-use Rattle.rules.specs.FieldFile.{bits16, bytes32, bytes16, number16, byteAt}
+use Rattle.rules.specs.Bytes.{bits16, bytes32, bytes16, number16, byteAt}
 
 -- stores one after the other are a list written over another
 stored : (l ys : List ℕ) (at : ℕ) → at + length ys ≤ length l → sets l at ys ≡ overwrite at ys l

@@ -1,9 +1,9 @@
-// A u32 and an i16 as little-endian bytes, both ways. All functions are leaves of file reading and writing: the bytes are there.
+// A u32 and an i16 as little-endian bytes, both ways, and a u64 from its bytes. All functions are leaves: the bytes are there.
 ghost use mathlib.Core.Path.{_≡_};
 ghost use Prim.Native.Nat.{_+_, _*_, _≤_};
 ghost use lib.ListN.{length};
 ghost use Rattle.whole.specs.Table.{overwrite};
-ghost use Rattle.rules.specs.FieldFile.{number32, number16, bits16, bytes32, bytes16};
+ghost use Rattle.rules.specs.Bytes.{number32, number64, number16, bits16, bytes32, bytes16};
 
 // A u32 by its four bytes.
 fn joined32(a: u8, b: u8, c: u8, d: u8) -> u32
@@ -25,6 +25,16 @@ pub fn number32(bytes: &[u8], at: usize) -> u32
     ensures { λ r. ⌜ r ≡ number32 (now (bytes .entry)) at ⌝ }
 {
     joined32(bytes[at], bytes[at + 1], bytes[at + 2], bytes[at + 3])
+}
+
+// The u64 at place `at`.
+pub fn number64(bytes: &[u8], at: usize) -> u64
+    requires { ⌜ at + 8 ≤ length (now bytes) ⌝ }
+    ensures { λ r. ⌜ r ≡ number64 (now (bytes .entry)) at ⌝ }
+{
+    let low = number32(bytes, at) as u64;
+    let high = number32(bytes, at + 4) as u64;
+    low + 4294967296 * high
 }
 
 // The i16 at place `at`.

@@ -15,9 +15,10 @@ use Rattle.whole.proofs.SumLaws.{all-cong}
 use Rattle.whole.proofs.OverwriteLaws.{part-at, part-size, part-room}
 use Rattle.whole.proofs.ListParts.{table-part, fill-part, overwritten}
 use Rattle.rules.specs.declared.Shape.{Shape}
-use Rattle.rules.specs.Field.{quadratic, faces, partLength, fieldLength, part}
-use Rattle.rules.specs.Calls.{windInRange, windAt, windSound}
-use Rattle.rules.specs.FieldFile.{number32, number16, byteAt, sectionStart, tableStart, fileLength, offsetsRight, fileWind, fileField}
+use Rattle.rules.specs.Field.{quadratic, faces, partLength, fieldLength, part, windInRange}
+use Rattle.rules.specs.Calls.{windAt, windSound}
+use Rattle.rules.specs.Bytes.{number32, number16, byteAt}
+use Rattle.rules.specs.FieldFile.{sectionStart, tableStart, fileLength, offsetsRight, fileWind, fileField}
 use Rattle.file_sections.specs.Numbers.{numbersOf, windsOf}
 use Rattle.file_layout.proofs.LayoutLaws.{tracer-start}
 

@@ -9,7 +9,8 @@ use lib.ListN.{length, getD}
 use Rattle.whole.specs.Sum.{all}
 use Rattle.rules.specs.Answers.{accepted, refused, answer}
 use Rattle.rules.specs.Field.{admitted}
-use Rattle.rules.specs.FieldFile.{byteAt, mark, tailShape, tailRight}
+use Rattle.rules.specs.Bytes.{byteAt}
+use Rattle.rules.specs.FieldFile.{mark, tailShape, tailRight}
 use Rattle.file_reading.specs.Reading.{tailReply}
 
 module _ (file : List ℕ) where

@@ -18,8 +18,8 @@ use Rattle.whole.proofs.OverwriteLaws.{part-at}
 use Rattle.whole.proofs.SumLaws.{all-at}
 use Rattle.whole.proofs.TableLaws.{length-table, getD-table}
 use Rattle.rules.specs.declared.Shape.{Shape}
-use Rattle.rules.specs.Field.{Kind, elements, faces, elementLength, partLength, fieldLength, part, cell, remainder, mass, total, limit, weightSum, sound}
-use Rattle.rules.specs.Calls.{windInRange, windAt, windSound}
+use Rattle.rules.specs.Field.{Kind, elements, faces, elementLength, partLength, fieldLength, part, cell, remainder, mass, total, limit, weightSum, sound, windInRange}
+use Rattle.rules.specs.Calls.{windAt, windSound}
 use Rattle.rules.specs.FieldFile.{fieldSound}
 use Rattle.rules.proofs.PartLaws.{part-length, value-le-mass, mass-le-total}
 use Rattle.file_layout.proofs.ReplyLaws.{and-yes}

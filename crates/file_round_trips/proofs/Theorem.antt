@@ -14,7 +14,8 @@ use Rattle.rules.specs.declared.FileRead.the-variants as FileRead
 use Rattle.rules.specs.Answers.{accepted, reading, fileAnswer}
 use Rattle.rules.specs.Field.{quadratic, admitted, faces, fieldLength}
 use Rattle.rules.specs.Calls.{reads}
-use Rattle.rules.specs.FieldFile.{byteAt, fileLength, readReply, readField, readWind, writeReply, writeFile, finds, ReadGives, WriteGives}
+use Rattle.rules.specs.Bytes.{byteAt}
+use Rattle.rules.specs.FieldFile.{fileLength, readReply, readField, readWind, writeReply, writeFile, finds, ReadGives, WriteGives}
 use Rattle.rules.proofs.QuadraticLaws.{weights-above}
 use Rattle.rules.proofs.ShapeLaws.{ranges}
 use Rattle.file_round_trips.specs.RoundTrips.{WrittenIsRead, ReadIsWritten, FoundAgain, SameBytes}

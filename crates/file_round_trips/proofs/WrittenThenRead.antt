@@ -17,7 +17,8 @@ use Rattle.rules.specs.declared.Shape.{Shape}
 use Rattle.rules.specs.Answers.{accepted}
 use Rattle.rules.specs.Field.{Kind, admitted, faces, fieldLength}
 use Rattle.rules.specs.Calls.{windAt, windSound}
-use Rattle.rules.specs.FieldFile.{byteAt, bytes32, number32, bytes16, number16, sectionStart, tableStart, fileLength, mark, fileOf, tailShape, tailRight, fileWind, offsetsRight, fileField, fieldSound, readReply, readField, readWind, writeReply, writeFile}
+use Rattle.rules.specs.Bytes.{byteAt, bytes32, number32, bytes16, number16}
+use Rattle.rules.specs.FieldFile.{sectionStart, tableStart, fileLength, mark, fileOf, tailShape, tailRight, fileWind, offsetsRight, fileField, fieldSound, readReply, readField, readWind, writeReply, writeFile}
 use Rattle.rules.proofs.ShapeLaws.{ranges}
 use Rattle.file_round_trips.specs.RoundTrips.{WrittenIsRead}
 use Rattle.file_layout.proofs.NumberLaws.{code32, code16}

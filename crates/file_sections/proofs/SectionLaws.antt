@@ -4,7 +4,7 @@ use mathlib.Core.List.{List}
 use Prim.Native.Nat.{ℕ, _*_, _<_}
 use lib.ListN.{getD}
 use Rattle.whole.proofs.TableLaws.{getD-table}
-use Rattle.rules.specs.FieldFile.{number32}
+use Rattle.rules.specs.Bytes.{number32}
 use Rattle.file_sections.specs.Numbers.{numbersOf}
 
 pub number-at : (section : List ℕ) (n i : ℕ) → i < n → number32 section (4 * i) ≡ getD (numbersOf section n) i 0

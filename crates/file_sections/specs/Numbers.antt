@@ -3,7 +3,7 @@ use mathlib.Core.List.{List}
 use Prim.Native.Nat.{ℕ, _*_}
 use lib.IntN.{ℤ}
 use Rattle.whole.specs.Table.{table}
-use Rattle.rules.specs.FieldFile.{number32, number16}
+use Rattle.rules.specs.Bytes.{number32, number16}
 
 -- the first n u32
 unfoldable pub numbersOf : List ℕ → ℕ → List ℕ

@@ -12,7 +12,8 @@ use Rattle.whole.proofs.OverwriteLaws.{part-at, length-overwrite}
 use Rattle.whole.proofs.TableLaws.{blocks-more, blocks-cong}
 use Rattle.rules.specs.declared.Shape.{Shape}
 use Rattle.rules.specs.Field.{quadratic, partLength, fieldLength, part, sound, Admitted}
-use Rattle.rules.specs.FieldFile.{bytes32, tableStart, mark, tail}
+use Rattle.rules.specs.Bytes.{bytes32}
+use Rattle.rules.specs.FieldFile.{tableStart, mark, tail}
 use Rattle.rules.proofs.PartLaws.{part-length}
 use Rattle.field_search.specs.Search.{searched}
 use Rattle.rules.specs.declared.Refusal.{Refusal}

@@ -22,7 +22,7 @@ use Rattle.rules.proofs.PartLaws.{node-lt, Good, part-length}
 use Rattle.rules.proofs.LedgerLaws.{entry-cong}
 use Rattle.rules.proofs.CallLaws.{Kept, operation-law}
 use Rattle.rules.proofs.FieldLaws.{Accepted, call-ind}
-use Rattle.ledger.specs.Lists.{Call, windCall, on, State, Buffers, fresh, lend, perform, run, line, ledgerFrom, ledger}
+use Rattle.ledger.specs.Lists.{Call, onWind, on, State, Buffers, fresh, lend, perform, run, line, ledgerFrom, ledger}
 
 module _ (κ : Kind) (g : Shape) where
   -- the field is long enough, every part is good, and the ledger's numbers are the masses
@@ -96,7 +96,7 @@ module _ (κ : Kind) (g : Shape) where
 
     perform-agrees : (c : Call) (st : State) (held : ℕ → ℕ → ℤ) → Agreeing (st .field) held → Agreeing (perform κ g b c st .state .field) (line κ g c (perform κ g b c st .reply) held)
     unfolding perform line
-    perform-agrees (windCall x) st held f = f
+    perform-agrees (onWind c) st held f = f
     perform-agrees (on s op) st held f = call-agrees s op (st .wind) (st .field) held f
 
     pub run-agrees : (cs : List Call) (st : State) (held : ℕ → ℕ → ℤ) → Agreeing (st .field) held → Agreeing (run κ g b cs st .end .field) (ledgerFrom κ g held cs (run κ g b cs st .replies))

@@ -18,9 +18,9 @@ use Rattle.rules.specs.Grid.{east, west, north, south, behind, ahead}
 use Rattle.rules.specs.Stages.{upwind, placeWind, advection, alongX, alongY, tendency, tabulated, stage0, stage1, stage2, tentative, fluxOf, faceSum, stages, flux}
 use Rattle.rules.specs.Correction.{donor, outflow, withSign, cut, limitedFlux, target}
 use Rattle.rules.specs.Step.{report, finish, tracerStep}
-use Rattle.rules.specs.Calls.{load, emission, withdrawal, step, Reply, noReport, windSound, zeroWind, zeroField, loadedValue, loadedElement, withElement, emitted, withdrawn, loaded, done, lentEnough, soundIfThere, checks, call, windReply, windAfter}
+use Rattle.rules.specs.Calls.{load, emission, withdrawal, step, Reply, noReport, windSound, zeroWind, zeroField, loadedValue, loadedElement, withElement, emitted, withdrawn, loaded, done, lentEnough, soundIfThere, checks, call, oneFace, windReply, windAfter}
 use Rattle.rules.specs.Ledger.{carried, entry}
-use Rattle.ledger.specs.Lists.{Call, windCall, on, fresh, lend, unreported, perform, run, line, ledgerFrom, ledger, stays, strike, repliesLeft}
+use Rattle.ledger.specs.Lists.{Call, onWind, on, fresh, lend, unreported, perform, run, line, ledgerFrom, ledger, stays, strike, repliesLeft}
 
 -- a list of calls on two smokes, its answers, the parts of the smokes, the winds and the ledgers of the smokes after it
 pub record Listing : Type 0 where
@@ -32,7 +32,7 @@ pub record Listing : Type 0 where
   pub ledgers : List (List ℤ)
 
 abbrev wind : Way → ℕ → ℕ → ℤ → Call
-wind way i j c = windCall (record { way = way; i = i; j = j; wind = c })
+wind way i j c = onWind (oneFace (record { way = way; i = i; j = j; wind = c }))
 
 abbrev yes : Answer Reply
 yes = accepted noReport

@@ -18,7 +18,7 @@ use Rattle.rules.specs.Calls.{Operation, load, emission, withdrawal, step, Lent
 use Rattle.rules.specs.Step.{report, tracerStep}
 use Rattle.rules.proofs.AnswerLaws.{answer-ind, after-accepted}
 use Rattle.rules.proofs.FieldLaws.{call-ind}
-use Rattle.ledger.specs.Lists.{Call, windCall, on, State, Buffers, fresh, lend, unreported, perform, run, ledger, strike, repliesLeft}
+use Rattle.ledger.specs.Lists.{Call, onWind, on, State, Buffers, fresh, lend, unreported, perform, run, ledger, strike, repliesLeft}
 use Rattle.ledger.specs.Demand3.{Demand3}
 use Rattle.ledger.specs.OverCalls.{Given, Made, Row, reported, told, allTold, AfterRow}
 use Rattle.ledger.proofs.Theorem.{demand-3}
@@ -58,7 +58,7 @@ module _ (g : Shape) (b : Buffers) where
 
   told-is : (c : Call) (x : State) (d : Given) → Made g b c x d → told g c d ≡ perform quadratic g b c x .reply
   unfolding told perform lend done
-  told-is (windCall f) x d h = ap unreported (h .0 .0)
+  told-is (onWind c) x d h = ap unreported (h .0 .0)
   told-is (on s (load numbers)) x d h = no-report _ _ (reply-of g s (load numbers) (x .field)) (h .0 .0)
   told-is (on s (emission i j q)) x d h = no-report _ _ (reply-of g s (emission i j q) (x .field)) (h .0 .0)
   told-is (on s (withdrawal i j q)) x d h = no-report _ _ (reply-of g s (withdrawal i j q) (x .field)) (h .0 .0)
@@ -70,7 +70,7 @@ module _ (g : Shape) (b : Buffers) where
 
   state-is : (c : Call) (x : State) (d : Given) → Made g b c x d → d .state ≡ perform quadratic g b c x .state
   unfolding perform lend
-  state-is (windCall f) x d h = λ i. record { field = h .1 i; wind = h .0 .1 i }
+  state-is (onWind c) x d h = λ i. record { field = h .1 i; wind = h .0 .1 i }
   state-is (on s (load numbers)) x d h = λ i. record { field = h .0 .1 i; wind = h .1 i }
   state-is (on s (emission i j q)) x d h = λ k. record { field = h .0 .1 k; wind = h .1 k }
   state-is (on s (withdrawal i j q)) x d h = λ k. record { field = h .0 .1 k; wind = h .1 k }

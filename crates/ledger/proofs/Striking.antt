@@ -11,7 +11,7 @@ use Rattle.rules.specs.Answers.{Answer}
 use Rattle.rules.specs.Field.{Kind, fieldLength, part}
 use Rattle.rules.specs.Calls.{Operation, Lent, Reply, call, windReply, windAfter}
 use Rattle.rules.proofs.FieldLaws.{call-length, call-other, reply-same, part-after-same}
-use Rattle.ledger.specs.Lists.{Call, windCall, on, State, Buffers, lend, unreported, Performed, perform, run, stays, strike, repliesLeft}
+use Rattle.ledger.specs.Lists.{Call, onWind, on, State, Buffers, lend, unreported, Performed, perform, run, stays, strike, repliesLeft}
 
 module _ (κ : Kind) (g : Shape) (b : Buffers) (s : ℕ) where
   -- two states that calls on tracer s cannot tell apart
@@ -28,7 +28,7 @@ module _ (κ : Kind) (g : Shape) (b : Buffers) (s : ℕ) where
   -- a call on another tracer, in one of the two
   other : (c : Call) (x y : State) → T (not (stays s c)) → Like x y → Like (perform κ g b c x .state) y
   unfolding perform stays
-  other (windCall f) x y n h = absurd n
+  other (onWind c) x y n h = absurd n
   other (on t op) x y n h = record {
     room₁ = still t (lend b (x .wind) op) (x .field) (h .room₁);
     room₂ = h .room₂;
@@ -56,9 +56,9 @@ module _ (κ : Kind) (g : Shape) (b : Buffers) (s : ℕ) where
 
   kept : (c : Call) (x y : State) → T (stays s c) → Like x y → Alike (perform κ g b c x) (perform κ g b c y)
   unfolding perform stays
-  kept (windCall f) x y t h = record {
-    replies = ap (λ w. unreported (windReply g f w)) (h .winds);
-    states = record { room₁ = h .room₁; room₂ = h .room₂; winds = ap (windAfter g f) (h .winds); parts = h .parts };
+  kept (onWind c) x y t h = record {
+    replies = ap (λ w. unreported (windReply g c w)) (h .winds);
+    states = record { room₁ = h .room₁; room₂ = h .room₂; winds = ap (windAfter g c) (h .winds); parts = h .parts };
   }
   kept (on t op) x y m h = subst (λ w. Alike (perform κ g b (on t op) x) (record { reply = call κ g t (lend b w op) (y .field) .reply; state = record { field = call κ g t (lend b w op) (y .field) .field; wind = y .wind } })) (h .winds)
       (subst (λ z. Alike

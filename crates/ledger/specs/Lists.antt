@@ -6,15 +6,15 @@ use Prim.Native.Nat.{ℕ}
 use lib.Dec.{eqb}
 use lib.IntN.{ℤ, pos}
 use Rattle.rules.specs.declared.Shape.{Shape}
-use Rattle.rules.specs.declared.Face.{Face}
 use Rattle.rules.specs.Answers.{Answer, accepted, refused}
 use Rattle.rules.specs.Field.{Kind}
-use Rattle.rules.specs.Calls.{Operation, load, emission, withdrawal, step, Lent, Reply, noReport, call, windReply, windAfter, zeroField, zeroWind}
+use Rattle.rules.specs.Calls.{Operation, load, emission, withdrawal, step, Lent, Reply, noReport, call, WindCall, windReply, windAfter, zeroField, zeroWind}
 use Rattle.rules.specs.Ledger.{entry}
 
--- "A call is on the smoke whose number it names"; a load's numbers stand in the call, and a step finds the wind as it stands
+-- "A call is on the smoke whose number it names"; a load's numbers stand in the call, and a step finds the wind as it stands.
+-- Document 02, 2026-01: "The smoke ledger's lists may hold wind imports": an import's records stand in the call
 pub data Call : Type 0 where
-  windCall : Face → Call
+  onWind : WindCall → Call
   on : ℕ → Operation (Unit {0}) → Call
 
 -- "Each call gets field and wind as the one before left them"
@@ -52,7 +52,7 @@ module _ (κ : Kind) (g : Shape) (b : Buffers) where
 
   unfoldable pub perform : Call → State → Performed
   unfolding windReply windAfter unreported lend call
-  perform (windCall f) st = record { reply = unreported (windReply g f (st .wind)); state = record { field = st .field; wind = windAfter g f (st .wind) } }
+  perform (onWind c) st = record { reply = unreported (windReply g c (st .wind)); state = record { field = st .field; wind = windAfter g c (st .wind) } }
   perform (on s op) st =
       let c = call κ g s (lend b (st .wind) op) (st .field) in
       record { reply = c .reply; state = record { field = c .field; wind = st .wind } }
@@ -73,10 +73,10 @@ module _ (κ : Kind) (g : Shape) (b : Buffers) where
 
 -- ---- the ledger: one whole number per tracer and element, fed with calls and answers
 module _ (κ : Kind) (g : Shape) where
-  -- "Wind calls and refused calls change nothing."
+  -- "Wind calls and refused calls change nothing."; imports are calls on the wind
   unfoldable pub line : Call → Answer Reply → (ℕ → ℕ → ℤ) → ℕ → ℕ → ℤ
   unfolding entry
-  line (windCall f) a held s e = held s e
+  line (onWind c) a held s e = held s e
   line (on t op) a held s e = cond (eqb t s) (entry κ g op a (held s) e) (held s e)
 
   -- the numbers after a list of calls and their answers, from the numbers `held` before it
@@ -93,7 +93,7 @@ module _ (κ : Kind) (g : Shape) where
 
 -- ---- striking all calls on the other tracers than s: "wind calls are never struck"
 unfoldable pub stays : ℕ → Call → Bool
-stays s (windCall f) = true
+stays s (onWind c) = true
 stays s (on t op) = eqb t s
 
 unfoldable pub strike : ℕ → List Call → List Call

@@ -9,7 +9,7 @@ use Rattle.rules.specs.declared.Outcome.{Outcome}
 use Rattle.rules.specs.Answers.{Answer, accepted, refused, outcome}
 use Rattle.rules.specs.Field.{quadratic, elements, faces, part, remainder, mass, total, limit}
 use Rattle.rules.specs.Calls.{load, emission, withdrawal, step, Reply, answers, CallGives, StepGives, WindGives}
-use Rattle.ledger.specs.Lists.{Call, windCall, on, State, Buffers, unreported, ledger, strike, repliesLeft}
+use Rattle.ledger.specs.Lists.{Call, onWind, on, State, Buffers, unreported, ledger, strike, repliesLeft}
 
 -- what one call of the code gave: its answer, field and wind at exit, and report and work at entry (lent) and at exit (left)
 pub record Given : Type 0 where
@@ -21,11 +21,11 @@ pub record Given : Type 0 where
   pub leftWork : List ℤ
 
 module _ (g : Shape) (b : Buffers) where
-  -- a call made at state x, by the very definition that the contract of `field::wind`, `load`, `emission`, `withdrawal` or `step::step` cites.
+  -- a call made at state x, by the very definition that the contract of `field::wind`, `load`, `emission`, `withdrawal`, `wind_import::import` or `step::step` cites.
   -- "Every call in its list uses one shape and one set of long enough buffers": report and work have the lengths b. "Between calls nothing
   -- else writes to field or wind": what a call isn't lent for writing stays
   abbrev pub Made : Call → State → Given → Type 0
-  Made (windCall f) x d = WindGives g f (x .wind) (answers (d .answer)) (d .state .wind) × (d .state .field ≡ x .field)
+  Made (onWind c) x d = WindGives g c (x .wind) (answers (d .answer)) (d .state .wind) × (d .state .field ≡ x .field)
   Made (on s (load numbers)) x d = CallGives quadratic g s (load numbers) (x .field) (answers (d .answer)) (d .state .field) × (d .state .wind ≡ x .wind)
   Made (on s (emission i j q)) x d = CallGives quadratic g s (emission i j q) (x .field) (answers (d .answer)) (d .state .field) × (d .state .wind ≡ x .wind)
   Made (on s (withdrawal i j q)) x d = CallGives quadratic g s (withdrawal i j q) (x .field) (answers (d .answer)) (d .state .field) × (d .state .wind ≡ x .wind)
@@ -49,7 +49,7 @@ module _ (g : Shape) where
   -- the answer that the ledger is fed with: "An accepted step's answer there includes the report as that step left it"
   unfoldable pub told : Call → Given → Answer Reply
   unfolding unreported reported
-  told (windCall f) d = unreported (outcome (d .answer))
+  told (onWind c) d = unreported (outcome (d .answer))
   told (on s (load numbers)) d = unreported (outcome (d .answer))
   told (on s (emission i j q)) d = unreported (outcome (d .answer))
   told (on s (withdrawal i j q)) d = unreported (outcome (d .answer))

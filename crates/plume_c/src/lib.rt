@@ -2,7 +2,7 @@
 // An answer is 0 where the call is accepted, else the refusal's number; a reading's is its number, or the refusal's number negated.
 // What each gives is what the call of the library gives, told by these numbers.
 ghost use Rattle.rules.specs.Field.{quadratic};
-ghost use Rattle.rules.specs.Calls.{load, emission, withdrawal, massReading, totalReading, CallGives, StepGives, FreshGives, WindGives};
+ghost use Rattle.rules.specs.Calls.{load, emission, withdrawal, massReading, totalReading, CallGives, StepGives, FreshGives, WindGives, oneFace, fromRecords};
 ghost use Rattle.rules.specs.FieldFile.{ReadGives, WriteGives};
 ghost use Rattle.c_numbers.specs.Numbers.{shapeOf, faceOf, coded, numbered, shaped};
 use rules::Shape;
@@ -38,7 +38,7 @@ pub extern "C" fn plume_wind(
     j: usize,
     c: i16,
 ) -> u8
-    ensures { λ r. ⌜ WindGives (shapeOf nx ny smokes) (faceOf way i j c) (now (wind .entry)) (coded r) (now (wind .exit)) ⌝ }
+    ensures { λ r. ⌜ WindGives (shapeOf nx ny smokes) (oneFace (faceOf way i j c)) (now (wind .entry)) (coded r) (now (wind .exit)) ⌝ }
 {
     let shape = Shape {
         nx,
@@ -47,6 +47,25 @@ pub extern "C" fn plume_wind(
     };
     let face = c_numbers::face(way, i, j, c);
     c_numbers::code(field::wind(wind, shape, face))
+}
+
+// The winds of all faces from wind records.
+#[no_mangle]
+pub extern "C" fn plume_import(
+    wind: &mut [i16],
+    records: &[u8],
+    nx: usize,
+    ny: usize,
+    smokes: usize,
+) -> u8
+    ensures { λ r. ⌜ WindGives (shapeOf nx ny smokes) (fromRecords (now (records .entry))) (now (wind .entry)) (coded r) (now (wind .exit)) ⌝ }
+{
+    let shape = Shape {
+        nx,
+        ny,
+        tracers: smokes,
+    };
+    c_numbers::code(wind_import::import(wind, records, shape))
 }
 
 // Nine numbers for each element of a smoke.

@@ -6,10 +6,9 @@ use Prim.Native.Nat.{ℕ}
 use lib.IntN.{ℤ}
 use lib.ListN.{drop}
 use Rattle.rules.specs.declared.Shape.{Shape}
-use Rattle.rules.specs.declared.Face.{Face}
 use Rattle.rules.specs.Answers.{Answer, accepted, refused, plain}
 use Rattle.rules.specs.Field.{Kind, workNeeded}
-use Rattle.rules.specs.Calls.{Operation, Lent, lent, step, Reply, call, freshReply, freshField, freshWind, windReply, windAfter, reportAfter, WorkAfter, CallGives, StepGives, FreshGives, WindGives}
+use Rattle.rules.specs.Calls.{WindCall, Operation, Lent, lent, step, Reply, call, freshReply, freshField, freshWind, windReply, windAfter, reportAfter, WorkAfter, CallGives, StepGives, FreshGives, WindGives}
 use Rattle.rules.specs.FieldFile.{readReply, readField, readWind, writeReply, writeFile, ReadGives, WriteGives}
 
 -- the answer is a
@@ -54,11 +53,11 @@ module _ (κ : Kind) (g : Shape) (field : List ℕ) (wind : List ℤ) where
   fresh-one : (a b : Answer (Unit {0})) (x y : List ℕ) (w v : List ℤ) → FreshGives κ g field wind (is a) x w → FreshGives κ g field wind (is b) y v → (a ≡ b) × ((x ≡ y) × (w ≡ v))
   fresh-one a b x y w v p q = (both (p .0) (q .0), (both (p .1 .0) (q .1 .0), both (p .1 .1) (q .1 .1)))
 
-  wind-some : (f : Face) → WindGives g f wind (is (windReply g f wind)) (windAfter g f wind)
-  wind-some f = (refl, refl)
+  wind-some : (c : WindCall) → WindGives g c wind (is (windReply g c wind)) (windAfter g c wind)
+  wind-some c = (refl, refl)
 
-  wind-one : (f : Face) (a b : Answer (Unit {0})) (w v : List ℤ) → WindGives g f wind (is a) w → WindGives g f wind (is b) v → (a ≡ b) × (w ≡ v)
-  wind-one f a b w v p q = (both (p .0) (q .0), both (p .1) (q .1))
+  wind-one : (c : WindCall) (a b : Answer (Unit {0})) (w v : List ℤ) → WindGives g c wind (is a) w → WindGives g c wind (is b) v → (a ≡ b) × (w ≡ v)
+  wind-one c a b w v p q = (both (p .0) (q .0), both (p .1) (q .1))
 
   module _ (file : List ℕ) where
     read-some : ReadGives κ file field wind (is (readReply κ file field wind)) (readField κ file field wind) (readWind κ file field wind)

@@ -15,3 +15,4 @@ pub mod GivesLaws
 pub mod StageBounds
 pub mod QuadraticLaws
 pub mod MarkedCases
+pub mod RecordCases

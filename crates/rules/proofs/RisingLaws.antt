@@ -1,4 +1,4 @@
--- "Checks run in rising number": so are the checks of every call.
+-- "Checks run in rising number": so are the checks of every call of document 01. (An import's checks go record by record, by document 02.)
 use mathlib.Core.Path.{_≡_, refl}
 use mathlib.Core.Bool.{true}
 use mathlib.Core.List.{List}
@@ -8,7 +8,7 @@ use Rattle.rules.specs.declared.Shape.{Shape}
 use Rattle.rules.specs.declared.Face.{Face}
 use Rattle.rules.specs.Answers.{rising}
 use Rattle.rules.specs.Field.{Kind}
-use Rattle.rules.specs.Calls.{Operation, load, emission, withdrawal, step, Lent, checks, callChecks, massChecks, totalChecks, freshChecks, windChecks}
+use Rattle.rules.specs.Calls.{Operation, load, emission, withdrawal, step, Lent, checks, callChecks, massChecks, totalChecks, freshChecks, windChecks, oneFace}
 use Rattle.rules.specs.FieldFile.{readChecks, writeChecks}
 
 module _ (κ : Kind) (g : Shape) (field : List ℕ) (wind : List ℤ) where
@@ -31,7 +31,7 @@ module _ (κ : Kind) (g : Shape) (field : List ℕ) (wind : List ℤ) where
   unfolding rising
   fresh-rising = refl
 
-  wind-rising : (f : Face) → rising 0 (windChecks g f wind) ≡ true
+  wind-rising : (f : Face) → rising 0 (windChecks g (oneFace f) wind) ≡ true
   unfolding rising
   wind-rising f = refl
 

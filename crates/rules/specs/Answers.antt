@@ -5,7 +5,7 @@ use Prim.Native.Nat.{ℕ}
 use lib.Dec.{ltb}
 use Rattle.rules.specs.declared.Shape.{Shape}
 use Rattle.rules.specs.declared.Refusal.{Refusal}
-use Rattle.rules.specs.declared.Refusal.the-variants.{NoFieldFile, BadShape, BadOffsets, ShortBuffer, WindOutOfRange, UnsoundTracer, NoSuchTracer, NoSuchElement, TotalAboveLimit, MassTooSmall}
+use Rattle.rules.specs.declared.Refusal.the-variants.{NoFieldFile, BadShape, BadOffsets, ShortBuffer, WindOutOfRange, UnsoundTracer, NoSuchTracer, NoSuchElement, TotalAboveLimit, MassTooSmall, BrokenRecords, NotFinite}
 use Rattle.rules.specs.declared.Outcome.{Outcome}
 use Rattle.rules.specs.declared.Outcome.the-variants as Outcome
 use Rattle.rules.specs.declared.Reading.{Reading}
@@ -59,6 +59,9 @@ number NoSuchTracer = 7
 number NoSuchElement = 8
 number TotalAboveLimit = 9
 number MassTooSmall = 10
+-- document 02, 2026-01
+number BrokenRecords = 11
+number NotFinite = 12
 
 abbrev pub outcome : Outcome → Answer (Unit {0})
 outcome Outcome.Accepted = accepted tt

@@ -4,7 +4,7 @@ use mathlib.Core.Bool.{Bool, true, _&&_, cond}
 use mathlib.Core.List.{List, [], _∷_, _++_}
 use Prim.Native.Nat.{ℕ, _+_, _*_, _-_}
 use lib.Dec.{leb, ltb}
-use lib.IntN.{ℤ, pos, natAbs}
+use lib.IntN.{ℤ, pos}
 use lib.ListN.{length, getD, set, replicate, drop}
 use Rattle.whole.specs.Sum.{all}
 use Rattle.whole.specs.Table.{table, blocks, overwrite}
@@ -13,14 +13,11 @@ use Rattle.rules.specs.declared.Face.{Face}
 use Rattle.rules.specs.declared.Outcome.{Outcome}
 use Rattle.rules.specs.declared.Reading.{Reading}
 use Rattle.rules.specs.Answers.{Answer, accepted, refused, Check, check, answer, after, plain, outcome, reading}
-use Rattle.rules.specs.Field.{Kind, admitted, elements, faces, workNeeded, element, onGrid, elementLength, fieldLength, part, withPart, cell, mass, total, limit, sound}
+use Rattle.rules.specs.Field.{Kind, admitted, elements, faces, workNeeded, element, onGrid, elementLength, fieldLength, part, withPart, cell, mass, total, limit, sound, windInRange}
+use Rattle.rules.specs.WindRecords.{allRecordChecks, recordWinds}
 use Rattle.rules.specs.Limiter.{closed, closedUnlevelled}
 use Rattle.rules.specs.Grid.{faceIndex}
 use Rattle.rules.specs.Step.{tracerStep}
-
--- document 01, "Field": "−1024 to 1024"
-abbrev pub windInRange : ℤ → Bool
-windInRange c = leb (natAbs c) 1024
 
 -- the stored wind of face f
 abbrev pub windAt : List ℤ → ℕ → ℤ
@@ -189,19 +186,32 @@ module _ (κ : Kind) (g : Shape) where
   unfolding freshReply zeroWind after
   freshWind field wind = after (freshReply field wind) (zeroWind g wind) wind
 
-module _ (g : Shape) where
-  -- "Wind: one face (east or north, i, j) gets a new C."
-  abbrev pub windChecks : Face → List ℤ → List Check
-  windChecks f wind = check 2 (admitted g) ∷ check 4 (leb (faces g) (length wind)) ∷ check 5 (windInRange (f .wind)) ∷ check 8 (onGrid g (f .i) (f .j)) ∷ []
+-- ---- calls on the wind
+-- "Wind: one face (east or north, i, j) gets a new C."; an import, whose records stand in the call, gives every face one (document 02, 2026-01)
+pub data WindCall : Type 0 where
+  oneFace : Face → WindCall
+  fromRecords : List ℕ → WindCall
 
-  unfoldable pub windReply : Face → List ℤ → Answer (Unit {0})
-  unfolding answer admitted
-  windReply f wind = answer (windChecks f wind) tt
+module _ (g : Shape) where
+  -- of an import: "the old 2, then 4 for the wind buffer, then records in order"
+  abbrev pub windChecks : WindCall → List ℤ → List Check
+  windChecks (oneFace f) wind = check 2 (admitted g) ∷ check 4 (leb (faces g) (length wind)) ∷ check 5 (windInRange (f .wind)) ∷ check 8 (onGrid g (f .i) (f .j)) ∷ []
+  windChecks (fromRecords records) wind = check 2 (admitted g) ∷ check 4 (leb (faces g) (length wind)) ∷ allRecordChecks records (elements g)
+
+  unfoldable pub windReply : WindCall → List ℤ → Answer (Unit {0})
+  unfolding answer admitted allRecordChecks
+  windReply c wind = answer (windChecks c wind) tt
+
+  -- the winds that an accepted one leaves; surplus stays
+  unfoldable pub newWind : WindCall → List ℤ → List ℤ
+  unfolding overwrite recordWinds
+  newWind (oneFace f) wind = set wind (faceIndex g (f .way) (f .i) (f .j)) (f .wind)
+  newWind (fromRecords records) wind = overwrite 0 (recordWinds records (elements g)) wind
 
   -- the winds after it
-  unfoldable pub windAfter : Face → List ℤ → List ℤ
-  unfolding windReply after
-  windAfter f wind = after (windReply f wind) (set wind (faceIndex g (f .way) (f .i) (f .j)) (f .wind)) wind
+  unfoldable pub windAfter : WindCall → List ℤ → List ℤ
+  unfolding windReply newWind after
+  windAfter c wind = after (windReply c wind) (newWind c wind) wind
 
 -- ---- what each call gives: what is told of its answer, and every buffer that it was lent for writing, at exit, from what all its buffers
 -- held at entry. The contracts of the code cite these, and so do the theorems over rows of calls.
@@ -238,5 +248,5 @@ module _ (κ : Kind) (g : Shape) where
   abbrev pub FreshGives : List ℕ → List ℤ → (Answer (Unit {0}) → Type 0) → List ℕ → List ℤ → Type 0
   FreshGives field wind told field′ wind′ = told (freshReply κ g field wind) × ((field′ ≡ freshField κ g field wind) × (wind′ ≡ freshWind κ g field wind))
 
-abbrev pub WindGives : Shape → Face → List ℤ → (Answer (Unit {0}) → Type 0) → List ℤ → Type 0
-WindGives g f wind told wind′ = told (windReply g f wind) × (wind′ ≡ windAfter g f wind)
+abbrev pub WindGives : Shape → WindCall → List ℤ → (Answer (Unit {0}) → Type 0) → List ℤ → Type 0
+WindGives g c wind told wind′ = told (windReply g c wind) × (wind′ ≡ windAfter g c wind)

@@ -4,7 +4,7 @@ use mathlib.Core.Bool.{Bool, _&&_}
 use mathlib.Core.List.{List, [], _∷_}
 use Prim.Native.Nat.{ℕ, _+_, _*_, _/_, _%_, _≤_, _<_}
 use lib.Dec.{leb, ltb}
-use lib.IntN.{ℤ, pos, negsuc}
+use lib.IntN.{ℤ, pos, negsuc, natAbs}
 use lib.ListN.{getD, take, drop}
 use Rattle.whole.specs.Sum.{sum, all}
 use Rattle.whole.specs.Table.{overwrite}
@@ -48,6 +48,10 @@ onGrid g i j = ltb i (g .nx) && ltb j (g .ny)
 -- "all east faces (j outer, i inner), then all north faces": the east face of element e has the index e, its north face this
 abbrev pub northFace : Shape → ℕ → ℕ
 northFace g e = elements g + e
+
+-- a stored wind, "−1024 to 1024"
+abbrev pub windInRange : ℤ → Bool
+windInRange c = leb (natAbs c) 1024
 
 -- ---- kind of element: what the rules ask of the nodes
 pub record Kind : Type 0 where

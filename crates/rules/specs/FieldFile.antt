@@ -2,9 +2,9 @@
 use mathlib.Core.Path.{_≡_}
 use mathlib.Core.Bool.{Bool, _&&_, cond}
 use mathlib.Core.List.{List, [], _∷_, _++_}
-use Prim.Native.Nat.{ℕ, _+_, _*_, _-_, _/_, _%_}
-use lib.Dec.{leb, ltb, eqb}
-use lib.IntN.{ℤ, pos, negsuc}
+use Prim.Native.Nat.{ℕ, _+_, _*_, _-_}
+use lib.Dec.{leb, eqb}
+use lib.IntN.{ℤ}
 use lib.ListN.{length, getD}
 use Rattle.whole.specs.Sum.{all}
 use Rattle.whole.specs.Table.{table, blocks, overwrite}
@@ -12,31 +12,8 @@ use Rattle.rules.specs.declared.Shape.{Shape}
 use Rattle.rules.specs.declared.FileRead.{FileRead}
 use Rattle.rules.specs.Answers.{Answer, Check, check, answer, after, fileAnswer}
 use Rattle.rules.specs.Field.{Kind, admitted, faces, partLength, fieldLength, part, sound}
+use Rattle.rules.specs.Bytes.{byteAt, bytes32, number32, bytes16, number16}
 use Rattle.rules.specs.Calls.{windAt, windSound}
-
--- ---- numbers as bytes, "Little-endian"
-abbrev pub byteAt : List ℕ → ℕ → ℕ
-byteAt file i = getD file i 0
-
-unfoldable pub bytes32 : ℕ → List ℕ
-bytes32 n = n % 256 ∷ n / 256 % 256 ∷ n / 65536 % 256 ∷ n / 16777216 % 256 ∷ []
-
-unfoldable pub number32 : List ℕ → ℕ → ℕ
-number32 file i = byteAt file i + 256 * byteAt file (i + 1) + 65536 * byteAt file (i + 2) + 16777216 * byteAt file (i + 3)
-
--- an i16 in two's complement
-unfoldable pub bits16 : ℤ → ℕ
-bits16 (pos n) = n
-bits16 (negsuc n) = 65535 - n
-
-unfoldable pub bytes16 : ℤ → List ℕ
-unfolding bits16
-bytes16 z = bits16 z % 256 ∷ bits16 z / 256 % 256 ∷ []
-
-unfoldable pub number16 : List ℕ → ℕ → ℤ
-number16 file i =
-    let n = byteAt file i + 256 * byteAt file (i + 1) in
-    cond (ltb n 32768) (pos n) (negsuc (65535 - n))
 
 -- ---- layout: "Wind section, then one section per smoke (ten u32 an element), then a table of K + 1 u32 offsets (wind, then each
 -- smoke), then the 12-byte tail"

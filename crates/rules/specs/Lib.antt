@@ -1,7 +1,9 @@
--- Document 01 as definitions, section by section. This is what a reader must believe; nothing is proved here.
+-- Document 01 as definitions, section by section, with what the requests of document 02 changed. This is what a reader must believe; nothing is proved here.
 pub mod Answers
 pub mod Field
 pub mod Sizes
+pub mod Bytes
+pub mod WindRecords
 pub mod Limiter
 pub mod Grid
 pub mod Stages

@@ -1,4 +1,4 @@
-// The types that the calls of document 01 take and answer. Their meaning is in specs/.
+// The types that the calls of documents 01 and 02 take and answer. Their meaning is in specs/.
 ghost use mathlib.Core.Path.{_≡_};
 ghost use Rattle.rules.specs.Answers.{number};
 
@@ -25,6 +25,22 @@ pub struct Face {
     pub wind: i16,
 }
 
+// The numbers of a wind record that has both, in elements a step (document 02, 2026-01).
+pub struct WindPair {
+    pub east: f64,
+    pub north: f64,
+}
+
+// A wind record of the weather office, by its kind.
+pub enum WindRecord {
+    // kind 0: no wind
+    Calm,
+    // kind 1: an east and a north component
+    Both(WindPair),
+    // kind 2: an east component, and no wind north
+    East(f64),
+}
+
 // Why a call was refused, in the order of the refusals' numbers.
 pub enum Refusal {
     // 1: the end of the file is not that of a field file
@@ -47,6 +63,10 @@ pub enum Refusal {
     TotalAboveLimit,
     // 10: the element holds less than was to be withdrawn
     MassTooSmall,
+    // 11: wind records with an unknown kind, a missing byte or bytes left over
+    BrokenRecords,
+    // 12: a wind record's number is not finite
+    NotFinite,
 }
 
 // The answer of a call that changes something.
@@ -67,7 +87,7 @@ pub enum FileRead {
     Refused(Refusal),
 }
 
-// The number that document 01 gives to a refusal.
+// The number that the documents give to a refusal.
 pub fn refusal_number(r: Refusal) -> u8
     ensures { λ n. ⌜ n ≡ number r ⌝ }
 {
@@ -82,5 +102,7 @@ pub fn refusal_number(r: Refusal) -> u8
         Refusal::NoSuchElement => 8,
         Refusal::TotalAboveLimit => 9,
         Refusal::MassTooSmall => 10,
+        Refusal::BrokenRecords => 11,
+        Refusal::NotFinite => 12,
     }
 }

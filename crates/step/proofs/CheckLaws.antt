@@ -13,9 +13,9 @@ use Rattle.whole.proofs.Cases.{both-yes}
 use Rattle.whole.proofs.SumLaws.{all-at}
 use Rattle.rules.specs.declared.Shape.{Shape}
 use Rattle.rules.specs.Answers.{Answer, accepted, refused, Check, check, answer, plain}
-use Rattle.rules.specs.Field.{quadratic, admitted, faces, workNeeded, fieldLength, partLength, part, withPart, total, Admitted, elementsLength}
+use Rattle.rules.specs.Field.{quadratic, admitted, faces, workNeeded, fieldLength, partLength, part, withPart, total, Admitted, elementsLength, windInRange}
 use Rattle.rules.specs.Step.{tracerStep}
-use Rattle.rules.specs.Calls.{Operation, step, Lent, lengthsLent, windInRange, windAt, windSound, lentEnough, soundIfThere, checks, done, call, totalReading, reportAfter, WorkAfter, Reply}
+use Rattle.rules.specs.Calls.{Operation, step, Lent, lengthsLent, windAt, windSound, lentEnough, soundIfThere, checks, done, call, totalReading, reportAfter, WorkAfter, Reply}
 use Rattle.rules.proofs.AnswerLaws.{Passed, answer-ind, prefix-refused, prefix-accepted}
 use Rattle.rules.proofs.FieldLaws.{total-small, sound-there}
 use Rattle.rules.proofs.ShapeLaws.{ranges}

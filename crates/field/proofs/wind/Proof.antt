@@ -8,8 +8,7 @@ use native.Mathlib.Omega.{arith}
 use lib.ListN.{length}
 use mir.Syntax.{w16}
 use mir.Val.{toZ, ofZ}
-use Rattle.rules.specs.Field.{admitted, faces, onGrid}
-use Rattle.rules.specs.Calls.{windInRange}
+use Rattle.rules.specs.Field.{admitted, faces, onGrid, windInRange}
 use Rattle.rules.proofs.GridLaws.{face-lt}
 use Rattle.rules.proofs.ShapeLaws.{admitted-is}
 use Rattle.field.proofs.WindFreshLoad.{inside-of, wind-2, wind-4, wind-5, wind-8, wind-done}

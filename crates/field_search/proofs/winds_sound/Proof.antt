@@ -4,7 +4,8 @@ use native.Mathlib.Omega.{arith}
 use Prim.Native.Nat.{_-_}
 use mir.Syntax.{w16}
 use mir.Facts.{toZ-ofZ}
-use Rattle.rules.specs.Calls.{windInRange, windAt, windSound}
+use Rattle.rules.specs.Field.{windInRange}
+use Rattle.rules.specs.Calls.{windAt, windSound}
 use Rattle.field_search.proofs.TestLaws.{Passing, none-passed, next-passes, next-fails, all-passed}
 use Rattle.field_search.proofs.winds_sound.Statement.{statement}
 use Rattle.field_search.proofs.winds_sound.Tie as tie

@@ -7,7 +7,8 @@ use borrow.Author.Tests.{eq-eqb, ne-eqb}
 use lib.Dec.{eqb}
 use lib.ListN.{getD}
 use Rattle.whole.specs.Sum.{all}
-use Rattle.rules.specs.FieldFile.{byteAt, mark}
+use Rattle.rules.specs.Bytes.{byteAt}
+use Rattle.rules.specs.FieldFile.{mark}
 use Rattle.whole.proofs.SumLaws.{all-more, all-fails}
 use Rattle.file_layout.proofs.is_mark.Statement.{statement}
 use Rattle.file_layout.proofs.is_mark.Tie as tie

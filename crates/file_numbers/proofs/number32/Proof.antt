@@ -1,4 +1,4 @@
-use Rattle.rules.specs.FieldFile.{number32}
+use Rattle.rules.specs.Bytes.{number32}
 use borrow.Author.Needs.{needs}
 use Rattle.file_numbers.proofs.number32.Statement.{statement}
 use Rattle.file_numbers.proofs.number32.Tie as tie

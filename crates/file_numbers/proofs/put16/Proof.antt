@@ -3,7 +3,7 @@ use native.Mathlib.Omega.{arith}
 use borrow.Author.Needs.{needs}
 use lib.ListN.{length-set}
 use mir.Facts.{toZ-ofZ}
-use Rattle.rules.specs.FieldFile.{bits16, bytes16}
+use Rattle.rules.specs.Bytes.{bits16, bytes16}
 use Rattle.file_numbers.proofs.ByteLaws.{stored-2}
 use Rattle.file_numbers.proofs.put16.Statement.{statement}
 use Rattle.file_numbers.proofs.put16.Tie as tie

@@ -1,7 +1,7 @@
 use native.Mathlib.Omega.{arith}
 use borrow.Author.Needs.{needs}
 use lib.ListN.{length-set}
-use Rattle.rules.specs.FieldFile.{bytes32}
+use Rattle.rules.specs.Bytes.{bytes32}
 use Rattle.file_numbers.proofs.ByteLaws.{stored-4}
 use Rattle.file_numbers.proofs.put32.Statement.{statement}
 use Rattle.file_numbers.proofs.put32.Tie as tie

@@ -1,7 +1,7 @@
 use Prim.Native.Nat.{_-_, _*_}
 use native.Mathlib.Omega.{arith}
 use borrow.Author.Needs.{needs}
-use Rattle.rules.specs.FieldFile.{number32}
+use Rattle.rules.specs.Bytes.{number32}
 use Rattle.field_elements.proofs.FillLaws.{Filled, filled-none, filled-next, filled-all}
 use Rattle.file_sections.specs.Numbers.{numbersOf}
 use Rattle.file_sections.proofs.read_numbers.Statement.{statement}

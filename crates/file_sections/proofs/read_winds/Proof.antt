@@ -4,7 +4,7 @@ use native.Mathlib.Omega.{arith}
 use borrow.Author.Needs.{needs}
 use mir.Syntax.{w16}
 use mir.Facts.{toZ-ofZ}
-use Rattle.rules.specs.FieldFile.{number16}
+use Rattle.rules.specs.Bytes.{number16}
 use Rattle.field_elements.proofs.FillLaws.{Filled, filled-none, filled-next, filled-all}
 use Rattle.file_sections.specs.Numbers.{windsOf}
 use Rattle.file_sections.proofs.read_winds.Statement.{statement}

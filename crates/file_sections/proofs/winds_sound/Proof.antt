@@ -4,8 +4,8 @@ use native.Mathlib.Omega.{arith}
 use borrow.Author.Needs.{needs}
 use mir.Syntax.{w16}
 use mir.Facts.{toZ-ofZ}
-use Rattle.rules.specs.Calls.{windInRange}
-use Rattle.rules.specs.FieldFile.{number16}
+use Rattle.rules.specs.Field.{windInRange}
+use Rattle.rules.specs.Bytes.{number16}
 use Rattle.field_search.proofs.TestLaws.{Passing, none-passed, next-passes, next-fails, all-passed}
 use Rattle.file_sections.proofs.winds_sound.Statement.{statement}
 use Rattle.file_sections.proofs.winds_sound.Tie as tie

@@ -4,7 +4,7 @@ use native.Mathlib.Nat.{mul-comm}
 use native.Mathlib.Omega.{arith}
 use borrow.Author.Needs.{needs}
 use lib.ListN.{getD}
-use Rattle.rules.specs.FieldFile.{bytes32}
+use Rattle.rules.specs.Bytes.{bytes32}
 use Rattle.field_elements.proofs.FillLaws.{BlocksFilled, blocks-none, blocks-over, blocks-all}
 use Rattle.file_numbers.proofs.ByteLaws.{length-bytes32}
 use Rattle.file_sections.proofs.write_numbers.Statement.{statement}

@@ -6,7 +6,7 @@ use borrow.Author.Needs.{needs}
 use mir.Syntax.{w16}
 use mir.Facts.{toZ-ofZ}
 use Rattle.rules.specs.Calls.{windAt}
-use Rattle.rules.specs.FieldFile.{bytes16}
+use Rattle.rules.specs.Bytes.{bytes16}
 use Rattle.field_elements.proofs.FillLaws.{BlocksFilled, blocks-none, blocks-over, blocks-all}
 use Rattle.file_numbers.proofs.ByteLaws.{length-bytes16}
 use Rattle.file_sections.proofs.write_winds.Statement.{statement}

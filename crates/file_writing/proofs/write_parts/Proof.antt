@@ -11,7 +11,7 @@ use Rattle.whole.specs.Table.{blocks, overwrite}
 use Rattle.whole.proofs.OverwriteLaws.{part-size}
 use Rattle.rules.specs.Field.{quadratic, faces, fieldLength}
 use Rattle.rules.specs.Calls.{windAt}
-use Rattle.rules.specs.FieldFile.{bytes16}
+use Rattle.rules.specs.Bytes.{bytes16}
 use Rattle.file_layout.proofs.FileLaws.{field-start, table-start, fieldBytes}
 use Rattle.file_layout.proofs.LayoutLaws.{wind-start, length-le, length-is}
 use Rattle.file_writing.proofs.FileWritten.{with-winds, with-tracers, with-table, winds-long, tracers-long, table-long, winds-made, table-made, tail-made}

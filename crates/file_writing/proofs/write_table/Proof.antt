@@ -5,7 +5,8 @@ use Prim.Native.Nat.{_≤_, _+_, _-_}
 use lib.ListN.{length}
 use Rattle.whole.specs.Table.{blocks, overwrite}
 use Rattle.rules.specs.Field.{quadratic}
-use Rattle.rules.specs.FieldFile.{bytes32, sectionStart}
+use Rattle.rules.specs.Bytes.{bytes32}
+use Rattle.rules.specs.FieldFile.{sectionStart}
 use Rattle.file_layout.proofs.LayoutLaws.{section-le}
 use Rattle.file_writing.proofs.WritingLaws.{next-offset}
 use Rattle.file_writing.proofs.write_table.Statement.{statement}

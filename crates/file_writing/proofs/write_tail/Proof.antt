@@ -4,7 +4,7 @@ use borrow.Author.Needs.{needs}
 use native.Mathlib.Omega.{arith}
 use lib.ListN.{length, set, length-set}
 use Rattle.whole.proofs.OverwriteLaws.{length-overwrite}
-use Rattle.rules.specs.FieldFile.{bytes32}
+use Rattle.rules.specs.Bytes.{bytes32}
 use borrow.Author.Needs.{needs}
 use Rattle.rules.specs.Field.{quadratic}
 use Rattle.file_layout.proofs.LayoutLaws.{length-is, length-le}

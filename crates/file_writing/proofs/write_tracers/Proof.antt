@@ -9,7 +9,7 @@ use lib.ListN.{length, getD, take-append-drop}
 use Rattle.whole.specs.Table.{blocks, overwrite}
 use Rattle.whole.proofs.OverwriteLaws.{part-size}
 use Rattle.rules.specs.Field.{quadratic, fieldLength}
-use Rattle.rules.specs.FieldFile.{bytes32}
+use Rattle.rules.specs.Bytes.{bytes32}
 use Rattle.rules.proofs.ShapeLaws.{elements-le}
 use Rattle.field_layout.proofs.PlaceLaws.{field-is}
 use Rattle.file_writing.proofs.WritingLaws.{ends, written-length, next-tracer}

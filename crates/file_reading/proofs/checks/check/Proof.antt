@@ -8,9 +8,10 @@ use borrow.Author.Tests.{not-true, not-false}
 use lib.ListN.{length, take, drop}
 use Rattle.whole.specs.Sum.{all}
 use Rattle.whole.proofs.OverwriteLaws.{part-size}
-use Rattle.rules.specs.Field.{quadratic, faces, fieldLength}
-use Rattle.rules.specs.Calls.{windInRange, windSound}
-use Rattle.rules.specs.FieldFile.{number16, fileLength, offsetsRight, fileWind}
+use Rattle.rules.specs.Field.{quadratic, faces, fieldLength, windInRange}
+use Rattle.rules.specs.Calls.{windSound}
+use Rattle.rules.specs.Bytes.{number16}
+use Rattle.rules.specs.FieldFile.{fileLength, offsetsRight, fileWind}
 use Rattle.file_layout.proofs.LayoutLaws.{wind-span}
 use Rattle.file_reading.proofs.ReadLaws.{winds-tested}
 use Rattle.file_reading.proofs.CheckLaws.{check-3, check-4-field, check-4-wind, check-5, check-6, check-done, right-length}

@@ -8,7 +8,8 @@ use borrow.Author.Tests.{eq-eqb, ne-eqb}
 use lib.ListN.{length}
 use Rattle.whole.specs.Sum.{all}
 use Rattle.rules.specs.Field.{quadratic}
-use Rattle.rules.specs.FieldFile.{number32, fileLength, tableStart}
+use Rattle.rules.specs.Bytes.{number32}
+use Rattle.rules.specs.FieldFile.{fileLength, tableStart}
 use Rattle.whole.proofs.SumLaws.{all-more, all-fails}
 use Rattle.file_layout.proofs.LayoutLaws.{length-is, length-le}
 use Rattle.file_reading.proofs.ReadLaws.{offset, wrong-length, wrong-table, by-offsets}

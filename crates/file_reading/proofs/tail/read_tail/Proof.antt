@@ -7,7 +7,8 @@ use borrow.Author.Tests.{not-true, not-false}
 use lib.Dec.{eqb}
 use lib.ListN.{length, getD}
 use Rattle.whole.specs.Sum.{all}
-use Rattle.rules.specs.FieldFile.{byteAt, mark, tailShape}
+use Rattle.rules.specs.Bytes.{byteAt}
+use Rattle.rules.specs.FieldFile.{mark, tailShape}
 use Rattle.file_reading.proofs.TailLaws.{tail-short, tail-unmarked, tail-fourth, tail-bad-shape, tail-found}
 use Rattle.file_reading.proofs.tail.read_tail.Statement.{statement}
 use Rattle.file_reading.proofs.tail.read_tail.Tie as tie

@@ -1,0 +1,2 @@
+-- Laws of the import.
+pub mod ImportLaws

@@ -1,0 +1,2 @@
+-- What the walk over the records tells.
+pub mod Walk

@@ -1,0 +1,4 @@
+-- Laws of wind records.
+pub mod DoubleLaws
+pub mod RecordLaws
+pub mod WindsLaws

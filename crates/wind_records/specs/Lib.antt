@@ -1,0 +1,2 @@
+-- What the leaves of an import tell.
+pub mod Records
