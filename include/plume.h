@@ -3,8 +3,8 @@
  * Shape. nx and ny are 1 to 64 elements, smokes is 1 to 8. Element (i, j) has i counted east from 0 and j north from 0.
  *
  * Buffers. Each is a pointer and then the count of its numbers. Pointers are aligned for their type and not null, also where the
- * count is 0; buffers of one call do not overlap. A buffer may be longer than needed, but for the file of plume_read and the
- * records of plume_import: what is beyond stays as it was.
+ * count is 0; buffers of one call do not overlap. A buffer may be longer than needed, and what is beyond stays as
+ * it was; the file of plume_read and the records of plume_import have just their bytes.
  *   field    10 * nx * ny * smokes. Smoke by smoke, then j, then i: nine values (b outer, a inner, from south-west to
  *            north-east) and a remainder, 0 to 35. An element holds the sum of its values times their weights
  *            1 4 1, 4 16 4, 1 4 1, plus the remainder; a smoke's total is the sum of that, at most 100,000,000.
@@ -13,8 +13,8 @@
  *   report   2 * nx * ny, in the wind's order: how much smoke went over each face, positive to the east or north.
  *   work     64 * nx * ny, of any content.
  *   records  the bytes of nx * ny wind records, one per element, j outer, i inner. A record is a kind byte and then numbers, each an
- *            IEEE 754 binary64 (f64) in 8 bytes, little-endian, in elements per step: kind 0 has none (no wind), kind 1 an east and a
- *            north component, kind 2 an east component (no wind north).
+ *            IEEE 754 binary64 (f64) in 8 bytes, little-endian, in elements per step: kind 0 has none (both winds become 0), kind 1
+ *            an east and a north component, kind 2 an east component (the north wind becomes 0).
  *   file     the bytes of a field file; 4 * nx * ny + 40 * nx * ny * smokes + 4 * (smokes + 1) + 12 of them.
  *
  * Answers. A uint8_t is 0 where the call was accepted, else the refusal's number. An int64_t is the number asked for, or the
@@ -22,7 +22,7 @@
  *    1 no field file: fewer than 12 bytes, wrong mark, or fourth byte of the tail not 0
  *    2 shape outside its ranges
  *    3 the file's offsets or length differ from what its shape gives
- *    4 a buffer is shorter than needed
+ *    4 a buffer is shorter than needed (a short file is 1 or 3, short records are 11)
  *    5 a wind number outside -1024 to 1024
  *    6 a remainder above 35 or a total above 100,000,000: of the named smoke; in plume_read and plume_write of any
  *    7 no such smoke
@@ -56,9 +56,8 @@ uint8_t plume_wind(int16_t *wind, size_t wind_count, size_t nx, size_t ny, size_
                    uint8_t way, size_t i, size_t j, int16_t c);
 
 /* Gives the east and the north face of every element the winds of its record: the whole number nearest to 4096 times the component, the
- * even one at a half. Refusals 2 4, then of each record in turn 11 12 5, then 11 for bytes that are left over: so a 5 in the first
- * record comes before an 11 in the second. Nothing is written before all records have passed; the winds stored before are not
- * looked at. */
+ * even one at a half (1024.5 becomes 1024, which passes). The numbers stored before are not looked at. Refusals 2 4, then of each record
+ * in turn 11 12 5, then 11 for bytes that are left over: so a 5 in the first record comes before an 11 in the second. */
 uint8_t plume_import(int16_t *wind, size_t wind_count, const uint8_t *records, size_t records_count,
                      size_t nx, size_t ny, size_t smokes);
 

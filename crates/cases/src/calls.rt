@@ -84,6 +84,15 @@ pub(crate) fn wind(edge: &[u8], before: [i16; 5], shape: Shape, face: Face) {
     show::text(b"\n");
 }
 
+pub(crate) fn import(edge: &[u8], before: [i16; 5], shape: Shape, records: &[u8]) {
+    let mut after = before;
+    let answer = wind_import::import(&mut after, records, shape);
+    show::front(b"import", edge);
+    show::outcome(answer);
+    winds_left(before, after);
+    show::text(b"\n");
+}
+
 pub(crate) fn fresh(edge: &[u8], before: [u32; 59], winds_before: [i16; 5], shape: Shape) {
     let mut after = before;
     let mut winds_after = winds_before;

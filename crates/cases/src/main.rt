@@ -1,9 +1,10 @@
-// Runs the calls on a field at and beside the edges of document 01, and prints a line for each: the call, what is at the edge,
+// Runs the calls on a field at and beside the edges of documents 01 and 02, and prints a line for each: the call, what is at the edge,
 ghost use Rattle.rules.specs.Field.{elements};
 // its answer and what it left. A refused call's buffers are compared with copies from before it.
 mod buffers; // buffers.rt: buffers to start from
 mod calls; // calls.rt: one line for a call
 mod contents; // contents.rt: what accepted calls leave
+mod imports; // imports.rt: imports of wind records
 mod edges; // edges.rt: the last number that passes, and the first that doesn't
 mod orders; // orders.rt: calls with two faults
 mod refusals; // refusals.rt: each refusal of each call
@@ -30,4 +31,10 @@ fn main() {
     contents::cleared();
     contents::grids();
     contents::grid_winds();
+    imports::kinds();
+    imports::halves();
+    imports::sizes();
+    imports::faults();
+    imports::two_faults();
+    imports::refused_before_records();
 }

@@ -6,6 +6,7 @@ use Prim.Native.Nat.{ℕ, _*_}
 use lib.IntN.{ℤ, pos, negsuc}
 use lib.ListN.{getD, replicate}
 use Rattle.whole.specs.Sum.{sum, sumℤ, all}
+use Rattle.whole.specs.Nearest.{nearestNatural, nearest}
 use Rattle.whole.specs.Parts.{positive}
 use Rattle.whole.specs.Table.{table, blocks, overwrite}
 use Rattle.rules.specs.declared.Shape.{Shape}
@@ -18,7 +19,9 @@ use Rattle.rules.specs.Grid.{east, west, north, south, behind, ahead}
 use Rattle.rules.specs.Stages.{upwind, placeWind, advection, alongX, alongY, tendency, tabulated, stage0, stage1, stage2, tentative, fluxOf, faceSum, stages, flux}
 use Rattle.rules.specs.Correction.{donor, outflow, withSign, cut, limitedFlux, target}
 use Rattle.rules.specs.Step.{report, finish, tracerStep}
-use Rattle.rules.specs.Calls.{load, emission, withdrawal, step, Reply, noReport, windSound, zeroWind, zeroField, loadedValue, loadedElement, withElement, emitted, withdrawn, loaded, done, lentEnough, soundIfThere, checks, call, oneFace, windReply, windAfter}
+use Rattle.rules.specs.Calls.{load, emission, withdrawal, step, Reply, noReport, windSound, zeroWind, zeroField, loadedValue, loadedElement, withElement, emitted, withdrawn, loaded, done, lentEnough, soundIfThere, checks, call, oneFace, fromRecords, windReply, newWind, windAfter}
+use Rattle.rules.specs.Bytes.{number32, number64}
+use Rattle.rules.specs.WindRecords.{magnitude, exactValue, faceWind, componentsAt, wholeAt, readingChecks, recordChecks, recordStart, allRecordChecks, recordWinds}
 use Rattle.rules.specs.Ledger.{carried, entry}
 use Rattle.ledger.specs.Lists.{Call, onWind, on, fresh, lend, unreported, perform, run, line, ledgerFrom, ledger, stays, strike, repliesLeft}
 
@@ -33,6 +36,9 @@ pub record Listing : Type 0 where
 
 abbrev wind : Way → ℕ → ℕ → ℤ → Call
 wind way i j c = onWind (oneFace (record { way = way; i = i; j = j; wind = c }))
+
+abbrev imports : List ℕ → Call
+imports records = onWind (fromRecords records)
 
 abbrev yes : Answer Reply
 yes = accepted noReport
@@ -79,6 +85,46 @@ on-one-row = record {
   parts = (0 ∷ 0 ∷ 1 ∷ 0 ∷ 0 ∷ 0 ∷ 0 ∷ 0 ∷ 0 ∷ 1 ∷ 6 ∷ 3 ∷ 0 ∷ 1 ∷ 1 ∷ 0 ∷ 4 ∷ 2 ∷ 1 ∷ 11 ∷ []) ∷ (1 ∷ 4 ∷ 4 ∷ 1 ∷ 4 ∷ 4 ∷ 1 ∷ 4 ∷ 4 ∷ 14 ∷ 3 ∷ 0 ∷ 0 ∷ 3 ∷ 0 ∷ 0 ∷ 3 ∷ 0 ∷ 0 ∷ 14 ∷ []) ∷ [];
   winds = pos 1024 ∷ pos 700 ∷ pos 300 ∷ pos 0 ∷ [];
   ledgers = (pos 2 ∷ pos 62 ∷ []) ∷ (pos 140 ∷ pos 32 ∷ []) ∷ [];
+}
+
+-- the same winds by an import: halves that go to the even one, and a record with an east component only in the place of a wind call that set its
+-- north wind; the other imports are refused by their first fault
+abbrev pub by-import : Listing
+by-import = record {
+  shape = on-one-row .shape;
+  calls =
+      on 0 (load (0 ∷ 0 ∷ 37 ∷ 0 ∷ 0 ∷ 0 ∷ 0 ∷ 4 ∷ 26 ∷ 0 ∷ 0 ∷ 0 ∷ 15 ∷ 0 ∷ 0 ∷ 0 ∷ 4 ∷ 0 ∷ []))
+      ∷ on 0 (emission 1 0 16)
+      ∷ on 1 (emission 0 0 172)
+      ∷ wind North 1 0 (pos 55)
+      ∷ imports (1 ∷ 0 ∷ 0 ∷ 0 ∷ 0 ∷ 0 ∷ 2 ∷ 208 ∷ 63 ∷ 0 ∷ 0 ∷ 0 ∷ 0 ∷ 0 ∷ 200 ∷ 178 ∷ 63 ∷ 2 ∷ 0 ∷ 0 ∷ 0 ∷ 0 ∷ 0 ∷ 220 ∷ 197 ∷ 63 ∷ [])
+      ∷ imports (1 ∷ 0 ∷ 0 ∷ 0 ∷ 0 ∷ 0 ∷ 4 ∷ 208 ∷ 63 ∷ 0 ∷ 0 ∷ 0 ∷ 0 ∷ 0 ∷ 0 ∷ 0 ∷ 0 ∷ 2 ∷ 0 ∷ 0 ∷ 0 ∷ 0 ∷ 0 ∷ 0 ∷ 248 ∷ 127 ∷ [])
+      ∷ on 0 (step tt)
+      ∷ imports (2 ∷ 0 ∷ 0 ∷ 0 ∷ 0 ∷ 0 ∷ 0 ∷ 240 ∷ 255 ∷ 3 ∷ [])
+      ∷ on 1 (step tt)
+      ∷ on 0 (withdrawal 1 0 107)
+      ∷ imports (1 ∷ 0 ∷ 0 ∷ 0 ∷ 0 ∷ 0 ∷ 0 ∷ 208 ∷ 63 ∷ 0 ∷ 0 ∷ 0 ∷ 0 ∷ 0 ∷ 0 ∷ 208 ∷ 63 ∷ 2 ∷ 0 ∷ 0 ∷ 0 ∷ 0 ∷ 0 ∷ 0 ∷ 208 ∷ [])
+      ∷ imports (0 ∷ 0 ∷ 0 ∷ [])
+      ∷ on 0 (step tt)
+      ∷ [];
+  replies =
+      yes
+      ∷ yes
+      ∷ yes
+      ∷ yes
+      ∷ yes
+      ∷ refused 5
+      ∷ stepped (pos 61 ∷ negsuc 6 ∷ pos 9 ∷ pos 0 ∷ [])
+      ∷ refused 12
+      ∷ stepped (pos 28 ∷ negsuc 3 ∷ pos 7 ∷ pos 0 ∷ [])
+      ∷ yes
+      ∷ refused 11
+      ∷ refused 11
+      ∷ stepped (pos 6 ∷ negsuc 2 ∷ pos 0 ∷ pos 0 ∷ [])
+      ∷ [];
+  parts = on-one-row .parts;
+  winds = on-one-row .winds;
+  ledgers = on-one-row .ledgers;
 }
 
 -- winds that go all four ways: two steps of smoke 0 cut what leaves an element, and two faces run against their winds
@@ -161,11 +207,12 @@ struck l = record {
 }
 
 abbrev pub listings : List Listing
-listings = on-one-row ∷ all-four-ways ∷ struck on-one-row ∷ struck all-four-ways ∷ []
+listings = on-one-row ∷ by-import ∷ all-four-ways ∷ struck on-one-row ∷ struck by-import ∷ struck all-four-ways ∷ []
 
 pub listed : map (λ l. evaluated (l .shape) (l .calls)) listings ≡ listings
 unfolding evaluated struck strike stays repliesLeft ledger ledgerFrom line entry carried
-    run perform lend unreported call answer after admitted lentEnough checks soundIfThere sound windSound done loaded loadedElement loadedValue withElement emitted withdrawn windReply windAfter
+    run perform lend unreported call answer after admitted lentEnough checks soundIfThere sound windSound done loaded loadedElement loadedValue withElement emitted withdrawn windReply newWind windAfter
+    allRecordChecks recordChecks readingChecks recordStart wholeAt componentsAt recordWinds faceWind exactValue magnitude nearest nearestNatural number64 number32
     fresh zeroField zeroWind elementLength elementsLength partLength fieldLength part withPart cell remainder mass total weighted weightSum quadratic
     tracerStep stages stage0 stage1 stage2 tentative tabulated tendency alongX alongY advection placeWind upwind flux fluxOf faceSum report finish donor outflow limitedFlux cut withSign target
     closed closedUnlevelled adjusted meanShift truncated rescaled rescaledValue closingRemainder east west north south behind ahead

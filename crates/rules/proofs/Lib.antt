@@ -15,4 +15,5 @@ pub mod GivesLaws
 pub mod StageBounds
 pub mod QuadraticLaws
 pub mod MarkedCases
+pub mod ExactValue
 pub mod RecordCases

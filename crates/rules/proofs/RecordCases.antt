@@ -9,11 +9,12 @@ use Rattle.rules.specs.Answers.{Answer, accepted, refused, answer}
 use Rattle.rules.specs.Bytes.{number32, number64}
 use Rattle.rules.specs.WindRecords.{magnitude, exactValue, faceWind, componentsAt, wholeAt, recordChecks, recordStart, allRecordChecks, recordWinds}
 
--- the eight bytes of an f64 by its exponent and its fraction; and those of its negative
+-- the eight bytes of a number, the lowest first
 unfoldable pub bytes64 : ℕ → List ℕ
 unfolding table
 bytes64 bits = table 8 (λ i. bits / 256 ^ i % 256)
 
+-- those of an f64 by its exponent and its fraction, and of its negative
 abbrev pub plus : ℕ → ℕ → List ℕ
 plus e f = bytes64 (e * 2 ^ 52 + f)
 
@@ -30,12 +31,12 @@ both x y = 1 ∷ x ++ y
 abbrev pub east : List ℕ → List ℕ
 east x = 2 ∷ x
 
--- 0.25 is 1024 / 4096; 1024.5 / 4096 is a half beside it, and the next f64 is beyond it
-abbrev pub quarter : ℕ
-quarter = 1021
+-- 0.25 is 1024 / 4096: its exponent, and the fraction that makes it 1024.5 / 4096
+abbrev pub quarterExponent : ℕ
+quarterExponent = 1021
 
-abbrev pub half : ℕ
-half = 2 ^ 41
+abbrev pub halfMore : ℕ
+halfMore = 2 ^ 41
 
 pub record Case : Type 0 where
   pub elements : ℕ
@@ -48,16 +49,18 @@ row n records a = record { elements = n; records = records; expected = a }
 abbrev pub cases : List Case
 cases =
     -- each kind; all east winds, then all north winds
-    row 3 (calm ++ (both (plus quarter 0) (minus 1019 0) ++ east (plus 1020 0))) (accepted (pos 0 ∷ pos 1024 ∷ pos 512 ∷ pos 0 ∷ negsuc 255 ∷ pos 0 ∷ []))
+    row 3 (calm ++ (both (plus quarterExponent 0) (minus 1019 0) ++ east (plus 1020 0))) (accepted (pos 0 ∷ pos 1024 ∷ pos 512 ∷ pos 0 ∷ negsuc 255 ∷ pos 0 ∷ []))
+    -- the bytes of 0.25 as they stand
+    ∷ row 1 (2 ∷ 0 ∷ 0 ∷ 0 ∷ 0 ∷ 0 ∷ 0 ∷ 208 ∷ 63 ∷ []) (accepted (pos 1024 ∷ pos 0 ∷ []))
     -- halves: 0.5, 1.5 and 2.5 to 0, 2 and 2, and their negatives
     ∷ row 3 (both (plus 1010 0) (minus 1010 0) ++ (both (plus 1011 (2 ^ 51)) (minus 1011 (2 ^ 51)) ++ both (plus 1012 (2 ^ 50)) (minus 1012 (2 ^ 50))))
     (accepted (pos 0 ∷ pos 2 ∷ pos 2 ∷ pos 0 ∷ negsuc 1 ∷ negsuc 1 ∷ []))
     -- one unit beside 0.5
     ∷ row 1 (both (plus 1009 (2 ^ 52 - 1)) (minus 1010 1)) (accepted (pos 0 ∷ negsuc 0 ∷ []))
     -- 1024.5 is 1024, and more is 1025; a sign changes nothing
-    ∷ row 1 (both (plus quarter half) (minus quarter half)) (accepted (pos 1024 ∷ negsuc 1023 ∷ []))
-    ∷ row 1 (east (plus quarter (half + 1))) (refused 5)
-    ∷ row 1 (east (minus quarter (half + 1))) (refused 5)
+    ∷ row 1 (both (plus quarterExponent halfMore) (minus quarterExponent halfMore)) (accepted (pos 1024 ∷ negsuc 1023 ∷ []))
+    ∷ row 1 (east (plus quarterExponent (halfMore + 1))) (refused 5)
+    ∷ row 1 (east (minus quarterExponent (halfMore + 1))) (refused 5)
     -- −0, subnormals, the largest numbers
     ∷ row 2 (both (minus 0 0) (plus 0 1) ++ east (minus 0 (2 ^ 52 - 1))) (accepted (pos 0 ∷ pos 0 ∷ pos 0 ∷ pos 0 ∷ []))
     ∷ row 1 (east (plus 2046 (2 ^ 52 - 1))) (refused 5)

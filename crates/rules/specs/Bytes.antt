@@ -6,6 +6,7 @@ use lib.Dec.{ltb}
 use lib.IntN.{ℤ, pos, negsuc}
 use lib.ListN.{getD}
 
+-- byte i of a file; 0 past its end
 abbrev pub byteAt : List ℕ → ℕ → ℕ
 byteAt file i = getD file i 0
 

@@ -1,4 +1,5 @@
--- Document 01, "Calls on a field" and "Who meets which refusal": what each call answers, and what it leaves in its buffers.
+-- Document 01, "Calls on a field" and "Who meets which refusal", and the import of document 02, 2026-01: what each call answers, and what it leaves
+-- in its buffers.
 use mathlib.Core.Path.{_≡_}
 use mathlib.Core.Bool.{Bool, true, _&&_, cond}
 use mathlib.Core.List.{List, [], _∷_, _++_}
@@ -193,10 +194,13 @@ pub data WindCall : Type 0 where
   fromRecords : List ℕ → WindCall
 
 module _ (g : Shape) where
-  -- of an import: "the old 2, then 4 for the wind buffer, then records in order"
+  -- of a wind call 5 and 8; of an import: "then 4 for the wind buffer, then records in order"
+  abbrev pub ownChecks : WindCall → List Check
+  ownChecks (oneFace f) = check 5 (windInRange (f .wind)) ∷ check 8 (onGrid g (f .i) (f .j)) ∷ []
+  ownChecks (fromRecords records) = allRecordChecks records (elements g)
+
   abbrev pub windChecks : WindCall → List ℤ → List Check
-  windChecks (oneFace f) wind = check 2 (admitted g) ∷ check 4 (leb (faces g) (length wind)) ∷ check 5 (windInRange (f .wind)) ∷ check 8 (onGrid g (f .i) (f .j)) ∷ []
-  windChecks (fromRecords records) wind = check 2 (admitted g) ∷ check 4 (leb (faces g) (length wind)) ∷ allRecordChecks records (elements g)
+  windChecks c wind = check 2 (admitted g) ∷ check 4 (leb (faces g) (length wind)) ∷ ownChecks c
 
   unfoldable pub windReply : WindCall → List ℤ → Answer (Unit {0})
   unfolding answer admitted allRecordChecks

@@ -15,7 +15,8 @@ unfolding nearestNatural
 nearest (pos n) d = pos (nearestNatural n d)
 nearest (negsuc n) d = negℤ (pos (nearestNatural (suc n) d))
 
--- r is nearest to z / d: twice the distance of d r from z is at most d, and where it is d, r is even. There is one such number, `nearest z d`
+-- r is nearest to z / d for d above 0: twice the distance of d r from z is at most d, and where it is d, r is even. There is one such number,
+-- `nearest z d`
 pub record Nearest (z : ℤ) (d : ℕ) (r : ℤ) : Type 0 where
   pub close : 2 * natAbs (z -ℤ pos d *ℤ r) ≤ d
   pub even : 2 * natAbs (z -ℤ pos d *ℤ r) ≡ d → natAbs r % 2 ≡ 0

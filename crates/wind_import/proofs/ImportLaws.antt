@@ -19,9 +19,9 @@ use Rattle.rules.specs.declared.Shape.{Shape}
 use Rattle.rules.specs.Answers.{Answer, accepted, refused, Check, check, answer, after}
 use Rattle.rules.specs.Field.{admitted, elements, faces}
 use Rattle.rules.specs.Calls.{fromRecords, windReply, newWind, windAfter}
+use Rattle.rules.specs.Bytes.{byteAt}
 use Rattle.rules.specs.WindRecords.{recordLength, wholeAt, recordChecks, recordStart, allRecordChecks, eastWind, northWind, recordWinds}
 use Rattle.rules.proofs.AnswerLaws.{Passed, accepted-is, passed-prefix, passed-both, prefix-refused, after-refused, after-accepted}
-use Rattle.wind_import.specs.Walk.{recordsReply}
 use Rattle.wind_records.specs.declared.Winds.{Winds}
 use Rattle.wind_records.specs.Records.{windsAt}
 use Rattle.wind_records.proofs.RecordLaws.{Whole, whole-is}
@@ -30,6 +30,10 @@ module _ (records : List ℕ) where
   -- the checks of the record of element e
   abbrev checksOf : ℕ → List Check
   checksOf e = recordChecks records (recordStart records e)
+
+  -- the answer of the records of n elements
+  abbrev pub recordsReply : ℕ → Answer (Unit {0})
+  recordsReply n = answer (allRecordChecks records n) tt
 
   -- the check after the last of n records
   abbrev last : ℕ → List Check
@@ -52,17 +56,17 @@ module _ (records : List ℕ) where
       unfolding recordChecks
       whole = whole-is records at (true-of (wholeAt records at) (accepted-is (recordChecks records at) x y a .0 .0))
 
-      pub walked-more : Walked (e + 1) (at + recordLength records at)
+      pub walked-more : Walked (e + 1) (at + recordLength (byteAt records at))
       unfolding recordStart
       walked-more = record {
-        place = ap (λ p. p + recordLength records p) (w .place) ∙ ap (recordStart records) (sym (add-one e));
+        place = ap (λ p. p + recordLength (byteAt records p)) (w .place) ∙ ap (recordStart records) (sym (add-one e));
         room = whole .room;
         passed = subst Passed (sym (blocks-more e checksOf))
             (passed-both (blocks e checksOf) (checksOf e) (w .passed) (subst (λ p. Passed (recordChecks records p)) (w .place) (accepted-is (recordChecks records at) x y a .0)));
       }
 
     -- it is refused, and so is the import, whatever comes after it
-    pub walked-refused : (n k : ℕ) (y : A) → e < n → refused k ≡ answer (recordChecks records at) y → refused k ≡ recordsReply records n
+    pub walked-refused : (n k : ℕ) (y : A) → e < n → refused k ≡ answer (recordChecks records at) y → refused k ≡ recordsReply n
     unfolding allRecordChecks
     walked-refused n k y l a =
         let m : e + 1 + (n - (e + 1)) ≡ n = omega arith in
@@ -71,7 +75,7 @@ module _ (records : List ℕ) where
         let r = ap (λ cs. answer cs y) (blocks-more e checksOf) ∙ passed-prefix (blocks e checksOf) (checksOf e) y (w .passed) ∙ ap (λ p. answer (recordChecks records p) y) (sym (w .place)) ∙ sym a in
         sym (ap (λ cs. answer (cs ++ last n) tt) b ∙ ap (λ cs. answer cs tt) (append-assoc (blocks (e + 1) checksOf) rest (last n)) ∙ prefix-refused (blocks (e + 1) checksOf) (rest ++ last n) y tt k r)
 
-    pub never-refused : (n k : ℕ) (y : A) → e < n → refused k ≡ answer (recordChecks records at) y → accepted tt ≡ recordsReply records n → ⊥
+    pub never-refused : (n k : ℕ) (y : A) → e < n → refused k ≡ answer (recordChecks records at) y → accepted tt ≡ recordsReply n → ⊥
     never-refused n k y l a p = let q : accepted tt ≡ refused k = p ∙ sym (walked-refused n k y l a) in let z : _≡_ {A = ℕ} 0 1 = cc in omega arith
 
   -- the winds of a record that passed
@@ -83,11 +87,11 @@ module _ (records : List ℕ) where
 
   -- after the last record
   module _ (n at : ℕ) (w : Walked n at) where
-    pub bytes-left : at < length records → refused 11 ≡ recordsReply records n
+    pub bytes-left : at < length records → refused 11 ≡ recordsReply n
     unfolding allRecordChecks answer
     bytes-left l = sym (passed-prefix (blocks n checksOf) (last n) tt (w .passed) ∙ rw (ne-eqb (recordStart records n) (length records) (λ z. omega (arith, w .place))))
 
-    pub none-left : length records ≤ at → accepted tt ≡ recordsReply records n
+    pub none-left : length records ≤ at → accepted tt ≡ recordsReply n
     unfolding allRecordChecks answer
     none-left l = sym (passed-prefix (blocks n checksOf) (last n) tt (w .passed) ∙ rw (eq-eqb (recordStart records n) (length records) (omega (arith, w .place, w .room))))
 

@@ -3,11 +3,10 @@ ghost use mathlib.Core.Path.{_≡_};
 ghost use Prim.Native.Nat.{_+_, _≤_};
 ghost use lib.ListN.{length};
 ghost use Rattle.whole.specs.Written.{Written};
-ghost use Rattle.rules.specs.Answers.{accepted};
+ghost use Rattle.rules.specs.Answers.{accepted, answer};
 ghost use Rattle.rules.specs.Calls.{WindGives, fromRecords, answers};
 ghost use Rattle.rules.specs.Sizes.{mostElements};
-ghost use Rattle.rules.specs.WindRecords.{eastWind, northWind};
-ghost use Rattle.wind_import.specs.Walk.{recordsReply};
+ghost use Rattle.rules.specs.WindRecords.{eastWind, northWind, allRecordChecks};
 use rules::Outcome;
 use rules::Refusal;
 use rules::Shape;
@@ -15,7 +14,7 @@ use wind_records::Imported;
 
 // Whether the records of n elements pass, with no byte left over.
 fn check(records: &[u8], n: usize) -> Outcome
-    ensures { λ r. ⌜ answers r (recordsReply (now (records .entry)) n) ⌝ }
+    ensures { λ r. ⌜ answers r (answer (allRecordChecks (now (records .entry)) n) tt) ⌝ }
 {
     let mut at = 0;
     let mut e = 0;
@@ -38,7 +37,7 @@ fn check(records: &[u8], n: usize) -> Outcome
 
 // Writes the winds of n records that have passed.
 fn lay(wind: &mut [i16], records: &[u8], n: usize)
-    requires { ⌜ accepted tt ≡ recordsReply (now records) n ⌝ }
+    requires { ⌜ accepted (tt {0}) ≡ answer (allRecordChecks (now records) n) tt ⌝ }
     requires { ⌜ n ≤ mostElements ⌝ }
     requires { ⌜ n + n ≤ length (now wind) ⌝ }
     ensures { λ _. ⌜ Written 0 n n (eastWind (now (records .entry))) (northWind (now (records .entry))) (now (wind .entry)) (now (wind .exit)) ⌝ }

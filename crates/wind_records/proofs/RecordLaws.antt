@@ -12,8 +12,7 @@ use Rattle.whole.proofs.Cases.{either, both-yes}
 use Rattle.rules.specs.Answers.{Answer, accepted, refused, check, answer}
 use Rattle.rules.specs.declared.WindRecord.the-variants.{Calm, Both, East}
 use Rattle.rules.specs.Bytes.{byteAt, number32, number64}
-use Rattle.rules.specs.WindRecords.{finite, Components, components, numbersOf, recordLength, componentsAt, wholeAt}
-use Rattle.wind_records.specs.Records.{readingChecks}
+use Rattle.rules.specs.WindRecords.{finite, Components, components, numbersOf, recordLength, componentsAt, wholeAt, readingChecks}
 use Rattle.wind_records.proofs.DoubleLaws.{same-bits}
 
 -- a record of kind 0, or of no known kind, has its kind byte alone
@@ -54,7 +53,7 @@ module _ (records : List ℕ) (p : ℕ) where
   -- ---- whether it is whole
   pub missing : length records - p < 1 → false ≡ wholeAt records p
   unfolding wholeAt
-  missing h = rw (lt-leb (p + recordLength records p) (length records) (omega arith)) (none (leb (byteAt records p) 2))
+  missing h = rw (lt-leb (p + recordLength (byteAt records p)) (length records) (omega arith)) (none (leb (byteAt records p) 2))
     where
       none : (b : Bool) → false ≡ (b && false)
       none true = refl
@@ -64,9 +63,9 @@ module _ (records : List ℕ) (p : ℕ) where
   unfolding wholeAt
   unknown h = rw (lt-leb (byteAt records p) 2 h)
 
-  pub known : p ≤ length records → byteAt records p ≤ 2 → leb (recordLength records p) (length records - p) ≡ wholeAt records p
+  pub known : p ≤ length records → byteAt records p ≤ 2 → leb (recordLength (byteAt records p)) (length records - p) ≡ wholeAt records p
   unfolding wholeAt
-  known l h = rw (le-leb (byteAt records p) 2 h) (room (recordLength records p))
+  known l h = rw (le-leb (byteAt records p) 2 h) (room (recordLength (byteAt records p)))
     where
       room : (n : ℕ) → leb n (length records - p) ≡ leb (p + n) (length records)
       room n = either (leb n (length records - p))
@@ -76,24 +75,24 @@ module _ (records : List ℕ) (p : ℕ) where
   -- what a whole one has
   pub record Whole : Type 0 where
     pub kind : byteAt records p ≤ 2
-    pub room : p + recordLength records p ≤ length records
+    pub room : p + recordLength (byteAt records p) ≤ length records
 
   pub whole-is : wholeAt records p ≡ true → Whole
   unfolding wholeAt
   whole-is e =
-      let t = both-yes (leb (byteAt records p) 2) (leb (p + recordLength records p) (length records)) (subst T (sym e) tt) in
+      let t = both-yes (leb (byteAt records p) 2) (leb (p + recordLength (byteAt records p)) (length records)) (subst T (sym e) tt) in
       record { kind = leb→le _ _ (t .0); room = leb→le _ _ (t .1) }
 
   -- ---- its components, by its kind
-  pub of-calm : byteAt records p ≡ 0 → componentsAt records p ≡ record { eastBits = 0; northBits = 0 }
+  pub of-calm : byteAt records p ≡ 0 → componentsAt records p ≡ record { kind = 0; eastBits = 0; northBits = 0 }
   unfolding componentsAt
   of-calm e = rw e
 
-  pub of-both : byteAt records p ≡ 1 → componentsAt records p ≡ record { eastBits = number64 records (p + 1); northBits = number64 records (p + 9) }
+  pub of-both : byteAt records p ≡ 1 → componentsAt records p ≡ record { kind = 1; eastBits = number64 records (p + 1); northBits = number64 records (p + 9) }
   unfolding componentsAt
   of-both e = rw e
 
-  pub of-east : byteAt records p ≡ 2 → componentsAt records p ≡ record { eastBits = number64 records (p + 1); northBits = 0 }
+  pub of-east : byteAt records p ≡ 2 → componentsAt records p ≡ record { kind = 2; eastBits = number64 records (p + 1); northBits = 0 }
   unfolding componentsAt
   of-east e = rw e
 
@@ -119,7 +118,7 @@ module _ (records : List ℕ) (p : ℕ) where
   -- ---- the code's ways through them
   pub read-calm : wholeAt records p ≡ true → byteAt records p ≡ 0 → Reads (accepted (components Calm))
   unfolding components
-  read-calm w k = reads-done (record { eastBits = 0; northBits = 0 }) (of-calm k) w refl refl
+  read-calm w k = reads-done (record { kind = 0; eastBits = 0; northBits = 0 }) (of-calm k) w refl refl
 
   module _ (w : wholeAt records p ≡ true) (k : byteAt records p ≡ 0 → ⊥) where
     pub east-room : p + 9 ≤ length records
@@ -141,10 +140,10 @@ module _ (records : List ℕ) (p : ℕ) where
   module _ (w : wholeAt records p ≡ true) (small : (i : ℕ) → byteAt records i < 256) (f : finite (number64 records (p + 1)) ≡ true) where
     pub read-east : byteAt records p ≡ 2 → (x : Float) → x ≡ ofBits binary64 (number64 records (p + 1)) → Reads (accepted (components (East x)))
     unfolding components
-    read-east k x e = ap (λ b. accepted (record { eastBits = b; northBits = 0 })) (bits-back records small (p + 1) f x e) ∙ reads-done (record { eastBits = number64 records (p + 1); northBits = 0 }) (of-east k) w f refl
+    read-east k x e = ap (λ b. accepted (record { kind = 2; eastBits = b; northBits = 0 })) (bits-back records small (p + 1) f x e) ∙ reads-done (record { kind = 2; eastBits = number64 records (p + 1); northBits = 0 }) (of-east k) w f refl
 
     pub read-12-north : byteAt records p ≡ 1 → finite (number64 records (p + 9)) ≡ false → Reads (refused 12)
-    read-12-north k g = reads-12 (record { eastBits = number64 records (p + 1); northBits = number64 records (p + 9) }) (of-both k) w (both-not (finite (number64 records (p + 1))) (finite (number64 records (p + 9))) f g)
+    read-12-north k g = reads-12 (record { kind = 1; eastBits = number64 records (p + 1); northBits = number64 records (p + 9) }) (of-both k) w (both-not (finite (number64 records (p + 1))) (finite (number64 records (p + 9))) f g)
 
     pub read-both : byteAt records p ≡ 1 → finite (number64 records (p + 9)) ≡ true → (x y : Float) → x ≡ ofBits binary64 (number64 records (p + 1)) → y ≡ ofBits binary64 (number64 records (p + 9))
         → Reads (accepted (components (Both (record { east = x; north = y }))))
@@ -152,4 +151,4 @@ module _ (records : List ℕ) (p : ℕ) where
     read-both k g x y e d =
         let a = bits-back records small (p + 1) f x e in
         let b = bits-back records small (p + 9) g y d in
-        (λ i. accepted (record { eastBits = a i; northBits = b i })) ∙ reads-done (record { eastBits = number64 records (p + 1); northBits = number64 records (p + 9) }) (of-both k) w f g
+        (λ i. accepted (record { kind = 1; eastBits = a i; northBits = b i })) ∙ reads-done (record { kind = 1; eastBits = number64 records (p + 1); northBits = number64 records (p + 9) }) (of-both k) w f g

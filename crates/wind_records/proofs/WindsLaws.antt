@@ -1,10 +1,10 @@
 -- The winds of a record, by its case, and the answer of its import after it was read.
 use mathlib.Core.Path.{_≡_, refl, sym, ap, subst, _∙_}
-use mathlib.Core.Bool.{Bool, true, false, not, _&&_}
+use mathlib.Core.Bool.{Bool, true, false, _&&_}
 use mathlib.Core.List.{List, [], _∷_}
 use Prim.Native.Nat.{ℕ}
 use lib.Dec.{T}
-use lib.Ieee.{Float, binary64, isNan, toBits}
+use lib.Ieee.{Float, binary64, toBits}
 use lib.IntN.{ℤ, pos}
 use mir.Syntax.{w16}
 use mir.Val.{toZ, ofZ}
@@ -14,16 +14,16 @@ use Rattle.rules.specs.declared.WindRecord.{WindRecord}
 use Rattle.rules.specs.declared.WindRecord.the-variants.{Calm, Both, East}
 use Rattle.rules.specs.Answers.{Answer, accepted, refused, check, answer}
 use Rattle.rules.specs.Field.{windInRange}
-use Rattle.rules.specs.WindRecords.{finite, faceWind, components, componentsAt, recordChecks}
+use Rattle.rules.specs.WindRecords.{finite, faceWind, components, componentsAt, readingChecks, recordChecks}
 use Rattle.rules.proofs.AnswerLaws.{accepted-is, prefix-refused, prefix-accepted}
 use Rattle.wind_records.specs.declared.Winds.{Winds}
-use Rattle.wind_records.specs.Records.{keptWind, readingChecks, windsAt}
-use Rattle.wind_records.proofs.DoubleLaws.{no-nan, read-wind, zero-kept, range-kept, wind-kept}
+use Rattle.wind_records.specs.Records.{cappedWind, windsAt}
+use Rattle.wind_records.proofs.DoubleLaws.{read-wind, zero-kept, range-kept, wind-kept}
 
 -- ---- the winds of a record, by its case
 -- what the code returns, read back from its bits
 abbrev Kept : WindRecord → ℤ → ℤ → Type 0
-Kept w a b = (a ≡ keptWind (components w .eastBits)) × (b ≡ keptWind (components w .northBits))
+Kept w a b = (a ≡ cappedWind (components w .eastBits)) × (b ≡ cappedWind (components w .northBits))
 
 abbrev back : ℤ → ℤ
 back z = toZ w16 (ofZ w16 z)
@@ -33,23 +33,23 @@ module _ (w : WindRecord) where
   unfolding components
   calm-winds e = subst (λ x. Kept x (pos 0) (pos 0)) (sym e) (sym zero-kept, sym zero-kept)
 
-  pub both-winds : (p : WindPair) (a b : ℤ) → w ≡ Both p → a ≡ keptWind (toBits binary64 (p .east)) → b ≡ keptWind (toBits binary64 (p .north)) → Kept w (back a) (back b)
+  pub both-winds : (p : WindPair) (a b : ℤ) → w ≡ Both p → a ≡ cappedWind (toBits binary64 (p .east)) → b ≡ cappedWind (toBits binary64 (p .north)) → Kept w (back a) (back b)
   unfolding components
   both-winds p a b e f g = subst (λ x. Kept x (back a) (back b)) (sym e) (read-wind a (toBits binary64 (p .east)) f, read-wind b (toBits binary64 (p .north)) g)
 
-  pub east-winds : (x : Float) (a : ℤ) → w ≡ East x → a ≡ keptWind (toBits binary64 x) → Kept w (back a) (pos 0)
+  pub east-winds : (x : Float) (a : ℤ) → w ≡ East x → a ≡ cappedWind (toBits binary64 x) → Kept w (back a) (pos 0)
   unfolding components
   east-winds x a e f = subst (λ y. Kept y (back a) (pos 0)) (sym e) (read-wind a (toBits binary64 x) f, sym zero-kept)
 
-  -- its numbers are no NaNs
+  -- its numbers are finite
   module _ (f : T (finite (components w .eastBits))) where
-    pub both-no-nan : (p : WindPair) → w ≡ Both p → T (finite (components w .northBits)) → T (not (isNan (p .east))) × T (not (isNan (p .north)))
+    pub both-finite : (p : WindPair) → w ≡ Both p → T (finite (components w .northBits)) → T (finite (toBits binary64 (p .east))) × T (finite (toBits binary64 (p .north)))
     unfolding components
-    both-no-nan p e g = (no-nan (p .east) (subst (λ y. T (finite (components y .eastBits))) e f), no-nan (p .north) (subst (λ y. T (finite (components y .northBits))) e g))
+    both-finite p e g = (subst (λ y. T (finite (components y .eastBits))) e f, subst (λ y. T (finite (components y .northBits))) e g)
 
-    pub east-no-nan : (x : Float) → w ≡ East x → T (not (isNan x))
+    pub east-finite : (x : Float) → w ≡ East x → T (finite (toBits binary64 x))
     unfolding components
-    east-no-nan x e = no-nan x (subst (λ y. T (finite (components y .eastBits))) e f)
+    east-finite x e = subst (λ y. T (finite (components y .eastBits))) e f
 
 -- ---- the import of one record
 last-5 : {A : Type 0} (a b : Bool) (x : A) → (a && b) ≡ false → refused 5 ≡ answer (check 5 (a && b) ∷ []) x
@@ -99,10 +99,10 @@ module _ (records : List ℕ) (p : ℕ) where
     at-last x = prefix-accepted (readingChecks records p) (check 5 (inEast && inNorth) ∷ []) (componentsAt records p) (components w) x (sym e)
 
     east-range : windInRange a ≡ inEast
-    east-range = ap windInRange (k .0 ∙ ap (λ c. keptWind (c .eastBits)) same) ∙ range-kept (componentsAt records p .eastBits)
+    east-range = ap windInRange (k .0 ∙ ap (λ c. cappedWind (c .eastBits)) same) ∙ range-kept (componentsAt records p .eastBits)
 
     north-range : windInRange b ≡ inNorth
-    north-range = ap windInRange (k .1 ∙ ap (λ c. keptWind (c .northBits)) same) ∙ range-kept (componentsAt records p .northBits)
+    north-range = ap windInRange (k .1 ∙ ap (λ c. cappedWind (c .northBits)) same) ∙ range-kept (componentsAt records p .northBits)
 
     pub import-5-east : windInRange a ≡ false → Imports (refused 5)
     import-5-east r = last-5 inEast inNorth (windsAt records p) (east-not inEast inNorth (sym east-range ∙ r)) ∙ sym (at-last (windsAt records p))
@@ -113,6 +113,6 @@ module _ (records : List ℕ) (p : ℕ) where
     pub import-done : windInRange a ≡ true → windInRange b ≡ true → Imports (accepted (record { east = a; north = b }))
     unfolding windsAt
     import-done r s =
-        let x = k .0 ∙ ap (λ c. keptWind (c .eastBits)) same ∙ wind-kept (componentsAt records p .eastBits) (subst T (sym (sym east-range ∙ r)) tt) in
-        let y = k .1 ∙ ap (λ c. keptWind (c .northBits)) same ∙ wind-kept (componentsAt records p .northBits) (subst T (sym (sym north-range ∙ s)) tt) in
+        let x = k .0 ∙ ap (λ c. cappedWind (c .eastBits)) same ∙ wind-kept (componentsAt records p .eastBits) (subst T (sym (sym east-range ∙ r)) tt) in
+        let y = k .1 ∙ ap (λ c. cappedWind (c .northBits)) same ∙ wind-kept (componentsAt records p .northBits) (subst T (sym (sym north-range ∙ s)) tt) in
         (λ i. accepted (record { east = x i; north = y i })) ∙ last-done inEast inNorth (windsAt records p) (sym east-range ∙ r) (sym north-range ∙ s) ∙ sym (at-last (windsAt records p))

@@ -1,10 +1,9 @@
 // An f64 by its 64 bits, and the wind that it becomes.
 ghost use mathlib.Core.Path.{_≡_};
-ghost use mathlib.Core.Bool.{not};
 ghost use lib.Dec.{T};
-ghost use lib.Ieee.{binary64, isNan, toBits, ofBits};
+ghost use lib.Ieee.{binary64, toBits, ofBits};
 ghost use Rattle.rules.specs.WindRecords.{exponent, finite};
-ghost use Rattle.wind_records.specs.Records.{keptSize, keptWind};
+ghost use Rattle.wind_records.specs.Records.{cappedSize, cappedWind};
 
 // The eleven bits of the exponent.
 fn exponent(bits: u64) -> u64
@@ -20,7 +19,7 @@ pub fn finite(bits: u64) -> bool
     exponent(bits) != 2047
 }
 
-// The f64 of these bits.
+// A leaf: the f64 of these finite bits.
 pub fn of_bits(bits: u64) -> f64
     requires { ⌜ T (finite bits) ⌝ }
     ensures { λ r. ⌜ r ≡ ofBits binary64 bits ⌝ }
@@ -31,7 +30,7 @@ pub fn of_bits(bits: u64) -> f64
 // The size of the wind that an f64 of these bits becomes, or 4096 where it is larger. From exponent 1023 on the f64 is 1 or more; below
 // exponent 1010 it is less than 2^-13, so 4096 times it is less than a half; in between the fraction after its leading 1 is divided.
 fn wind_size(bits: u64) -> u64
-    ensures { λ r. ⌜ r ≡ keptSize bits ⌝ }
+    ensures { λ r. ⌜ r ≡ cappedSize bits ⌝ }
 {
     let e = exponent(bits);
     if 1023 <= e {
@@ -44,10 +43,10 @@ fn wind_size(bits: u64) -> u64
     whole::nearest(significand, 1u64 << (1063 - e))
 }
 
-// The wind that an f64 becomes; a size above 4096 becomes 4096.
+// A leaf: the wind that a finite f64 becomes; a size above 4096 becomes 4096.
 pub fn face_wind(x: f64) -> i16
-    requires { ⌜ T (not (isNan x)) ⌝ }
-    ensures { λ r. ⌜ r ≡ keptWind (toBits binary64 x) ⌝ }
+    requires { ⌜ T (finite (toBits binary64 x)) ⌝ }
+    ensures { λ r. ⌜ r ≡ cappedWind (toBits binary64 x) ⌝ }
 {
     let bits = f64::to_bits(x);
     let size = wind_size(bits) as i16;

@@ -1,16 +1,16 @@
 // Wind records of the weather office (document 02, 2026-01): a record from its bytes, and the winds that it gives its element's faces.
 ghost use mathlib.Core.Path.{_≡_};
-ghost use Prim.Native.Nat.{_+_, _*_, _≤_};
+ghost use Prim.Native.Nat.{_≤_};
 ghost use lib.Dec.{T};
 ghost use lib.ListN.{length};
 ghost use Rattle.rules.specs.Answers.{answer};
-ghost use Rattle.rules.specs.WindRecords.{finite, components, numbersOf, componentsAt, wholeAt, recordChecks};
-ghost use Rattle.wind_records.specs.Records.{keptWind, found, readingChecks, imported, windsAt};
+ghost use Rattle.rules.specs.WindRecords.{finite, components, recordLength, componentsAt, wholeAt, readingChecks, recordChecks};
+ghost use Rattle.wind_records.specs.Records.{cappedWind, found, imported, windsAt};
 use rules::Refusal;
 use rules::WindPair;
 use rules::WindRecord;
 
-pub mod double; // double.rt: an f64 by its bits, and the wind that it becomes
+mod double; // double.rt: an f64 by its bits, and the wind that it becomes
 
 // What stands at a place: a record of finite numbers, or why there is none.
 pub enum Found {
@@ -32,7 +32,7 @@ pub enum Imported {
 
 // The bytes of a record of this kind.
 pub fn record_length(kind: u8) -> usize
-    ensures { λ r. ⌜ r ≡ 1 + 8 * numbersOf kind ⌝ }
+    ensures { λ r. ⌜ r ≡ recordLength kind ⌝ }
 {
     if kind == 1 {
         return 17;
@@ -43,7 +43,7 @@ pub fn record_length(kind: u8) -> usize
     1
 }
 
-// Whether the record at place `at` is of a known kind and has all its bytes.
+// A leaf: whether the record at place `at`, which may be the end, is of a known kind and has all its bytes.
 pub fn whole_at(records: &[u8], at: usize) -> bool
     requires { ⌜ at ≤ length (now records) ⌝ }
     ensures { λ r. ⌜ r ≡ wholeAt (now (records .entry)) at ⌝ }
@@ -59,7 +59,7 @@ pub fn whole_at(records: &[u8], at: usize) -> bool
     record_length(kind) <= left
 }
 
-// The record at place `at`.
+// A leaf: the record at place `at`, which may be the end.
 pub fn record_at(records: &[u8], at: usize) -> Found
     requires { ⌜ at ≤ length (now records) ⌝ }
     ensures { λ r. ⌜ found r ≡ answer (readingChecks (now (records .entry)) at) (componentsAt (now (records .entry)) at) ⌝ }
@@ -89,11 +89,11 @@ pub fn record_at(records: &[u8], at: usize) -> Found
     Found::Record(WindRecord::Both(pair))
 }
 
-// The winds of a record of finite numbers; a size above 4096 becomes 4096, which is out of range as well.
+// A leaf: the winds of a record of finite numbers; a size above 4096 becomes 4096, which is out of range as well.
 pub fn winds_of(w: WindRecord) -> Winds
     requires { ⌜ T (finite (components w .eastBits)) ⌝ }
     requires { ⌜ T (finite (components w .northBits)) ⌝ }
-    ensures { λ r. ⌜ (r .east ≡ keptWind (components w .eastBits)) × (r .north ≡ keptWind (components w .northBits)) ⌝ }
+    ensures { λ r. ⌜ (r .east ≡ cappedWind (components w .eastBits)) × (r .north ≡ cappedWind (components w .northBits)) ⌝ }
 {
     match w {
         WindRecord::Calm => Winds { east: 0, north: 0 },
@@ -109,7 +109,7 @@ pub fn winds_of(w: WindRecord) -> Winds
     }
 }
 
-// The winds of the record at place `at`, or the refusal that it meets first.
+// A leaf: the winds of the record at place `at`, which may be the end, or the refusal that it meets first.
 pub fn winds_at(records: &[u8], at: usize) -> Imported
     requires { ⌜ at ≤ length (now records) ⌝ }
     ensures { λ r. ⌜ imported r ≡ answer (recordChecks (now (records .entry)) at) (windsAt (now (records .entry)) at) ⌝ }

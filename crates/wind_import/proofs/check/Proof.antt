@@ -4,6 +4,7 @@ use mathlib.Core.Path.{sym, ap, subst, _∙_}
 use Prim.Native.Nat.{_+_, _-_, _≤_}
 use native.Mathlib.Omega.{arith}
 use lib.ListN.{length}
+use Rattle.rules.specs.Bytes.{byteAt}
 use Rattle.rules.specs.WindRecords.{recordLength}
 use Rattle.wind_records.specs.Records.{imported}
 use Rattle.wind_import.proofs.ImportLaws.{Walked, walked-none, walked-more, walked-refused, bytes-left, none-left}
@@ -31,7 +32,7 @@ passed-from-length c = c .before .before
 
 -- the record at `at` passed, so the next one begins after it
 next : (c : tie.After-enum-told Inv-loop μ-loop) → Walked (loop-from-passed c .before .before .args .records .now) (loop-from-passed c .loop .e + 1)
-    (loop-from-passed c .loop .at + recordLength (loop-from-passed c .before .before .args .records .now) (loop-from-passed c .loop .at))
+    (loop-from-passed c .loop .at + recordLength (byteAt (loop-from-passed c .before .before .args .records .now) (loop-from-passed c .loop .at)))
 unfolding imported
 next c = walked-more _ _ _ (loop-from-passed c .loop .inv .1) _ _ (sym (ap imported (c .enum-told .given .1)) ∙ c .before .before .winds-at .ensures)
 

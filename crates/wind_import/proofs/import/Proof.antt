@@ -9,8 +9,7 @@ use lib.ListN.{length}
 use Rattle.rules.specs.Answers.{accepted, outcome}
 use Rattle.rules.specs.Field.{admitted, faces}
 use Rattle.rules.proofs.ShapeLaws.{admitted-is, elements-le}
-use Rattle.wind_import.specs.Walk.{recordsReply}
-use Rattle.wind_import.proofs.ImportLaws.{import-2, import-4, import-refused, import-done}
+use Rattle.wind_import.proofs.ImportLaws.{recordsReply, import-2, import-4, import-refused, import-done}
 use Rattle.wind_import.proofs.import.Statement.{statement}
 use Rattle.wind_import.proofs.import.Tie as tie
 

@@ -9,6 +9,7 @@ use mir.Val.{toZ, ofZ}
 use Rattle.whole.specs.Written.{Written}
 use Rattle.whole.proofs.WrittenLaws.{written-none, written-store, written-moved}
 use Rattle.rules.specs.Answers.{accepted, answer}
+use Rattle.rules.specs.Bytes.{byteAt}
 use Rattle.rules.specs.WindRecords.{recordLength, recordChecks, eastWind, northWind}
 use Rattle.wind_records.specs.Records.{imported, windsAt}
 use Rattle.wind_import.proofs.ImportLaws.{Walked, walked-none, walked-more, never-refused, winds-are}
@@ -52,7 +53,7 @@ unfolding imported
 passed c = sym (ap imported (c .found .given .1)) ∙ c .before .before .winds-at .ensures
 
 next : (c : tie.After-found Inv-loop μ-loop) → Walked (loop-from-read c .before .before .args .records .now) (loop-from-read c .loop .e + 1)
-    (loop-from-read c .loop .at + recordLength (loop-from-read c .before .before .args .records .now) (loop-from-read c .loop .at))
+    (loop-from-read c .loop .at + recordLength (byteAt (loop-from-read c .before .before .args .records .now) (loop-from-read c .loop .at)))
 next c = walked-more _ _ _ (loop-from-read c .loop .inv .1 .0) _ _ (passed c)
 
 slice-set-from-north : tie.Need-slice-set-from-north Inv-loop μ-loop

@@ -4,8 +4,8 @@ use borrow.Author.Tests.{not-true, not-false}
 use mathlib.Core.Path.{_≡_, sym, ap, _∙_}
 use Rattle.rules.specs.Answers.{accepted, answer}
 use Rattle.rules.specs.Field.{windInRange}
-use Rattle.rules.specs.WindRecords.{components, componentsAt}
-use Rattle.wind_records.specs.Records.{found, imported, readingChecks}
+use Rattle.rules.specs.WindRecords.{components, componentsAt, readingChecks}
+use Rattle.wind_records.specs.Records.{found, imported}
 use Rattle.wind_records.proofs.DoubleLaws.{read-wind}
 use Rattle.wind_records.proofs.WindsLaws.{finite-numbers, import-refused, import-5-east, import-5-north, import-done}
 use Rattle.wind_records.proofs.winds_at.Statement.{statement}

@@ -1,5 +1,5 @@
 use borrow.Author.Needs.{needs}
-use Rattle.wind_records.proofs.WindsLaws.{calm-winds, both-winds, east-winds, both-no-nan, east-no-nan}
+use Rattle.wind_records.proofs.WindsLaws.{calm-winds, both-winds, east-winds, both-finite, east-finite}
 use Rattle.wind_records.proofs.winds_of.Statement.{statement}
 use Rattle.wind_records.proofs.winds_of.Tie as tie
 
@@ -11,13 +11,13 @@ abbrev entry-from-east : tie.After-known-told2 → tie.Start
 entry-from-east c = c .before .before .before
 
 face-wind-requires : tie.Need-face-wind-requires
-face-wind-requires c κs = let e = entry-from-both c in both-no-nan (e .args .w) (e .pre .0) (c .before .w .given .0 .0) (c .before .w .given .1) (e .pre .1) .0
+face-wind-requires c κs = let e = entry-from-both c in both-finite (e .args .w) (e .pre .0) (c .before .w .given .0 .0) (c .before .w .given .1) (e .pre .1) .0
 
 face-wind-requires-2 : tie.Need-face-wind-requires-2
-face-wind-requires-2 c κs = let e = entry-from-both (c .before) in both-no-nan (e .args .w) (e .pre .0) (c .before .before .w .given .0 .0) (c .before .before .w .given .1) (e .pre .1) .1
+face-wind-requires-2 c κs = let e = entry-from-both (c .before) in both-finite (e .args .w) (e .pre .0) (c .before .before .w .given .0 .0) (c .before .before .w .given .1) (e .pre .1) .1
 
 face-wind-requires-3 : tie.Need-face-wind-requires-3
-face-wind-requires-3 c κs = let e = entry-from-east c in east-no-nan (e .args .w) (e .pre .0) (c .before .w2 .given .0 .0) (c .before .w2 .given .1)
+face-wind-requires-3 c κs = let e = entry-from-east c in east-finite (e .args .w) (e .pre .0) (c .before .w2 .given .0 .0) (c .before .w2 .given .1)
 
 returns : tie.Need-returns
 returns c = calm-winds (c .before .before .args .w) (c .enum-told .given .1)

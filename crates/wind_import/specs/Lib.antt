@@ -1,2 +1,0 @@
--- What the walk over the records tells.
-pub mod Walk
