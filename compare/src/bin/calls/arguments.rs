@@ -2,6 +2,7 @@
 
 use crate::buffers::{Buffer, Buffers};
 use crate::call::{Face, Grid, Operation, Place};
+use crate::records::lay_records;
 use compare::{content, files};
 use reference::checks::{element_mass, smoke_total};
 use reference::file::encoded;
@@ -25,22 +26,26 @@ pub fn surplus(rng: &mut Rng) -> usize {
     }
 }
 
-/// Any operation, steps most often; numbers and files that it takes are laid in the buffers.
+/// Any operation, steps most often; numbers, records and files that it takes are laid in the buffers.
 pub fn operation(rng: &mut Rng, b: &mut Buffers, shape: Shape) -> Operation {
     let at = place(rng, shape);
-    match rng.below(100) {
+    match rng.below(110) {
         0..=1 => Operation::Fresh,
         2..=14 => Operation::Wind(face(rng, shape), rng.wind()),
-        15..=21 => {
+        15..=24 => {
+            lay_records(rng, b, shape);
+            Operation::Import
+        }
+        25..=31 => {
             lay_numbers(rng, b, shape);
             Operation::Load(at.smoke)
         }
-        22..=34 => Operation::Emission(at, emitted(rng, b, shape, at)),
-        35..=47 => Operation::Withdrawal(at, withdrawn(rng, b, shape, at)),
-        48..=76 => Operation::Step(at.smoke),
-        77..=80 => Operation::Mass(at),
-        81..=83 => Operation::Total(at.smoke),
-        84..=93 => {
+        32..=44 => Operation::Emission(at, emitted(rng, b, shape, at)),
+        45..=57 => Operation::Withdrawal(at, withdrawn(rng, b, shape, at)),
+        58..=86 => Operation::Step(at.smoke),
+        87..=90 => Operation::Mass(at),
+        91..=93 => Operation::Total(at.smoke),
+        94..=103 => {
             lay_file(rng, b, shape);
             Operation::Read
         }

@@ -1,4 +1,4 @@
-//! A call with its arguments, the ten calls as one trait, and what an answer says.
+//! A call with its arguments, the eleven calls as one trait, and what an answer says.
 
 use crate::buffers::Buffers;
 
@@ -30,6 +30,7 @@ pub struct Face {
 pub enum Operation {
     Fresh,
     Wind(Face, i16),
+    Import,
     Load(usize),
     Emission(Place, u64),
     Withdrawal(Place, u64),
@@ -47,10 +48,11 @@ pub struct Call {
     pub operation: Operation,
 }
 
-/// The ten calls as C sees them. A u8 is 0 or the refusal's number; an i64 is the number answered or the refusal's negated.
+/// The eleven calls as C sees them. A u8 is 0 or the refusal's number; an i64 is the number answered or the refusal's negated.
 pub trait Calls {
     fn fresh(&self, field: &mut [u32], wind: &mut [i16], g: Grid) -> u8;
     fn wind(&self, wind: &mut [i16], g: Grid, face: Face, c: i16) -> u8;
+    fn import(&self, wind: &mut [i16], records: &[u8], g: Grid) -> u8;
     fn load(&self, field: &mut [u32], numbers: &[u32], g: Grid, smoke: usize) -> u8;
     fn emission(&self, field: &mut [u32], g: Grid, at: Place, q: u64) -> u8;
     fn withdrawal(&self, field: &mut [u32], g: Grid, at: Place, q: u64) -> u8;
@@ -77,6 +79,7 @@ pub fn make(side: &impl Calls, call: &Call, b: &mut Buffers) -> i64 {
     match call.operation {
         Operation::Fresh => side.fresh(field, wind, g).into(),
         Operation::Wind(face, c) => side.wind(wind, g, face, c).into(),
+        Operation::Import => side.import(wind, b.records.lent(), g).into(),
         Operation::Load(smoke) => side.load(field, b.numbers.lent(), g, smoke).into(),
         Operation::Emission(at, q) => side.emission(field, g, at, q).into(),
         Operation::Withdrawal(at, q) => side.withdrawal(field, g, at, q).into(),
@@ -92,9 +95,10 @@ pub fn make(side: &impl Calls, call: &Call, b: &mut Buffers) -> i64 {
 }
 
 /// The names of the calls, in the order of `Call::kind`.
-pub const KINDS: [&str; 10] = [
+pub const KINDS: [&str; 11] = [
     "fresh",
     "wind",
+    "import",
     "load",
     "emission",
     "withdrawal",
@@ -110,20 +114,21 @@ impl Call {
         match self.operation {
             Operation::Fresh => 0,
             Operation::Wind(..) => 1,
-            Operation::Load(_) => 2,
-            Operation::Emission(..) => 3,
-            Operation::Withdrawal(..) => 4,
-            Operation::Step(_) => 5,
-            Operation::Mass(_) => 6,
-            Operation::Total(_) => 7,
-            Operation::Read => 8,
-            Operation::Write => 9,
+            Operation::Import => 2,
+            Operation::Load(_) => 3,
+            Operation::Emission(..) => 4,
+            Operation::Withdrawal(..) => 5,
+            Operation::Step(_) => 6,
+            Operation::Mass(_) => 7,
+            Operation::Total(_) => 8,
+            Operation::Read => 9,
+            Operation::Write => 10,
         }
     }
 
     /// The refusal's number in an answer, 0 where the call was accepted.
     pub fn refusal(&self, answer: i64) -> i64 {
-        let is_number = self.kind() >= 6;
+        let is_number = self.kind() >= 7;
         match (is_number, answer < 0) {
             (true, true) => answer.wrapping_neg(),
             (true, false) => 0,

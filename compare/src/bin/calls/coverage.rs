@@ -1,4 +1,5 @@
-//! What the accepted steps met: smoke over a face, stage values below zero, cut amounts, and these together on one face.
+//! What the accepted steps met: smoke over a face, stage values below zero, cut amounts, and these together on one face. And what the
+//! accepted imports did.
 
 use crate::buffers::Buffers;
 use crate::call::{Call, Operation};
@@ -27,22 +28,45 @@ pub struct Coverage {
     below_zero: u64,
     cut: u64,
     together: u64,
+    imports: u64,
+    new_winds: u64,
+    surplus: u64,
+    large_imports: u64,
     pub read_back: u64,
     pub written_again: u64,
 }
 
 impl Coverage {
-    /// Looks at an accepted step, once in four into its stages.
-    pub fn step(&mut self, rng: &mut Rng, call: &Call, before: &Buffers, after: &Buffers) {
-        let smoke = match call.operation {
-            Operation::Step(smoke) => smoke,
-            _ => return,
-        };
+    /// Looks at an accepted call.
+    pub fn accepted(&mut self, rng: &mut Rng, call: &Call, before: &Buffers, after: &Buffers) {
         let shape = Shape {
             nx: call.grid.nx,
             ny: call.grid.ny,
             k: call.grid.smokes,
         };
+        match call.operation {
+            Operation::Step(smoke) => self.step(rng, shape, smoke, before, after),
+            Operation::Import => self.import(shape, before, after),
+            _ => {}
+        }
+    }
+
+    fn import(&mut self, shape: Shape, before: &Buffers, after: &Buffers) {
+        self.imports += 1;
+        self.new_winds += u64::from(before.wind.lent() != after.wind.lent());
+        self.surplus += u64::from(after.wind.lent().len() > shape.wind_len());
+        self.large_imports += u64::from(shape.elements() >= LARGE);
+    }
+
+    /// Looks at a step, once in four into its stages.
+    fn step(
+        &mut self,
+        rng: &mut Rng,
+        shape: Shape,
+        smoke: usize,
+        before: &Buffers,
+        after: &Buffers,
+    ) {
         let report = &after.report.lent()[..shape.wind_len()];
         self.steps += 1;
         self.moved += u64::from(report.iter().any(|&g| g != 0));
@@ -68,6 +92,10 @@ impl Coverage {
         println!(
             "of {} looked into: {} with a stage value below zero, {} with a cut face, {} with both and an old remainder on one face",
             self.looked_into, self.below_zero, self.cut, self.together
+        );
+        println!(
+            "{} imports accepted, {} that changed the wind, {} with surplus behind it, {} on {LARGE} elements or more",
+            self.imports, self.new_winds, self.surplus, self.large_imports
         );
         println!(
             "{} written files read back, {} read files written again",

@@ -6,6 +6,7 @@ use crate::call::{Calls, Face, Grid, Place};
 extern "C" {
     fn plume_fresh(field: *mut u32, field_count: usize, wind: *mut i16, wind_count: usize, nx: usize, ny: usize, smokes: usize) -> u8;
     fn plume_wind(wind: *mut i16, wind_count: usize, nx: usize, ny: usize, smokes: usize, way: u8, i: usize, j: usize, c: i16) -> u8;
+    fn plume_import(wind: *mut i16, wind_count: usize, records: *const u8, records_count: usize, nx: usize, ny: usize, smokes: usize) -> u8;
     fn plume_load(field: *mut u32, field_count: usize, numbers: *const u32, numbers_count: usize, nx: usize, ny: usize, smokes: usize, smoke: usize) -> u8;
     fn plume_emission(field: *mut u32, field_count: usize, nx: usize, ny: usize, smokes: usize, smoke: usize, i: usize, j: usize, q: u64) -> u8;
     fn plume_withdrawal(field: *mut u32, field_count: usize, nx: usize, ny: usize, smokes: usize, smoke: usize, i: usize, j: usize, q: u64) -> u8;
@@ -28,6 +29,10 @@ impl Calls for Library {
 
     fn wind(&self, wind: &mut [i16], g: Grid, face: Face, c: i16) -> u8 {
         unsafe { plume_wind(wind.as_mut_ptr(), wind.len(), g.nx, g.ny, g.smokes, face.way, face.i, face.j, c) }
+    }
+
+    fn import(&self, wind: &mut [i16], records: &[u8], g: Grid) -> u8 {
+        unsafe { plume_import(wind.as_mut_ptr(), wind.len(), records.as_ptr(), records.len(), g.nx, g.ny, g.smokes) }
     }
 
     fn load(&self, field: &mut [u32], numbers: &[u32], g: Grid, smoke: usize) -> u8 {

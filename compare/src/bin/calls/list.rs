@@ -67,7 +67,7 @@ impl List {
         }
     }
 
-    /// The next call; numbers, file and faults that belong to it are laid in the buffers.
+    /// The next call; numbers, records, file and faults that belong to it are laid in the buffers.
     pub fn next(&mut self, rng: &mut Rng, b: &mut Buffers) -> (Call, Expected) {
         self.left -= 1;
         self.sound = None;
@@ -178,5 +178,7 @@ fn lend(rng: &mut Rng, b: &mut Buffers, shape: Shape) {
     b.work.lend(count(shape.work_len()));
     b.numbers.lend(count(shape.load_len()));
     b.out.lend(count(shape.file_len()));
+    // the length of these two is part of what they say
+    b.records.lend(usize::MAX);
     b.file.lend(usize::MAX);
 }

@@ -34,6 +34,10 @@ impl Calls for Other {
         ))
     }
 
+    fn import(&self, wind: &mut [i16], records: &[u8], g: Grid) -> u8 {
+        accepted(reference::import(wind, records, g.nx, g.ny, g.smokes))
+    }
+
     fn load(&self, field: &mut [u32], numbers: &[u32], g: Grid, smoke: usize) -> u8 {
         accepted(reference::load(field, numbers, g.nx, g.ny, g.smokes, smoke))
     }

@@ -1,11 +1,15 @@
-//! How many calls of each kind got which answer, and whether all that document 01 names were met.
+//! How many calls of each kind got which answer, and whether all that documents 01 and 02 name were met.
 
 use crate::call::{Call, KINDS};
 
+/// The largest number of a refusal.
+const LAST: usize = 12;
+
 /// The refusals that each call may answer, in the order of `KINDS`.
-const REFUSALS: [&[usize]; 10] = [
+const REFUSALS: [&[usize]; KINDS.len()] = [
     &[2, 4],
     &[2, 4, 5, 8],
+    &[2, 4, 5, 11, 12],
     &[2, 4, 7, 9],
     &[2, 4, 6, 7, 8, 9],
     &[2, 4, 6, 7, 8, 10],
@@ -21,7 +25,7 @@ const ENOUGH: u64 = 20_000;
 
 #[derive(Default)]
 pub struct Table {
-    met: [[u64; 11]; 10],
+    met: [[u64; LAST + 1]; KINDS.len()],
     pub calls: u64,
 }
 
@@ -41,7 +45,7 @@ impl Table {
 
     pub fn print(&self) {
         print!("{:<12}{:>8}{:>9}", "call", "calls", "accepted");
-        for number in 1..=10 {
+        for number in 1..=LAST {
             print!("{number:>7}");
         }
         println!();
@@ -67,7 +71,7 @@ impl Table {
 }
 
 /// A line of the table; a dash where an answer can't be.
-fn line(name: &str, met: &[u64; 11], may: impl Fn(usize) -> bool) {
+fn line(name: &str, met: &[u64; LAST + 1], may: impl Fn(usize) -> bool) {
     let sum: u64 = met.iter().sum();
     print!("{name:<12}{sum:>8}{:>9}", met[0]);
     for (number, count) in met.iter().enumerate().skip(1) {

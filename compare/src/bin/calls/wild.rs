@@ -3,6 +3,7 @@
 use crate::arguments::{mass_of, total_of};
 use crate::buffers::{Buffer, Buffers};
 use crate::call::{Call, Grid, Operation, Place};
+use crate::records::spoil_records;
 use compare::{content, damage, files};
 use reference::checks::smoke_part;
 use reference::file::file_shape;
@@ -13,13 +14,15 @@ use reference::Shape;
 /// Lays one fault. Some do not regard the call, as a bad number of another smoke: then they must not show in its answer.
 pub fn spoil(rng: &mut Rng, call: &mut Call, b: &mut Buffers, shape: Shape) {
     let reads = matches!(call.operation, Operation::Read);
+    let imports = matches!(call.operation, Operation::Import);
     match rng.below(12) {
         // a reading names no shape, its file has many parts
         0 | 1 | 4..=6 if reads => spoil_file(rng, b),
         0 | 1 => spoil_grid(rng, &mut call.grid),
         2 | 3 => lend_short(rng, call, b, shape),
         4 => spoil_stored_wind(rng, b, shape),
-        5 | 6 => spoil_stored_field(rng, call, b, shape),
+        // an import is lent no field
+        5 | 6 if !imports => spoil_stored_field(rng, call, b, shape),
         _ => spoil_arguments(rng, call, b, shape),
     }
 }
@@ -75,7 +78,8 @@ fn lend_short(rng: &mut Rng, call: &Call, b: &mut Buffers, shape: Shape) {
     let lend_wind = |rng: &mut Rng, b: &mut Buffers| b.wind.lend(short(rng, shape.wind_len()));
     let which = rng.below(4);
     match (call.operation, which) {
-        (Operation::Wind(..), _) => lend_wind(rng, b),
+        (Operation::Import, 0) => b.records.lend(rng.index(b.records.room() + 1)),
+        (Operation::Wind(..) | Operation::Import, _) => lend_wind(rng, b),
         (Operation::Load(_), 0 | 1) => b.numbers.lend(short(rng, shape.load_len())),
         (Operation::Step(_), 0) => b.report.lend(short(rng, shape.wind_len())),
         (Operation::Step(_), 1) => b.work.lend(short(rng, shape.work_len())),
@@ -141,6 +145,7 @@ fn spoil_arguments(rng: &mut Rng, call: &mut Call, b: &mut Buffers, shape: Shape
             1 => *c = rng.pick(&[1025, -1025, i16::MIN, i16::MAX, 1024, -1024]),
             _ => off_grid(rng, shape, &mut face.i, &mut face.j),
         },
+        Operation::Import => spoil_records(rng, b, shape),
         Operation::Load(smoke) => match rng.below(3) {
             0 => *smoke = beyond(rng, shape.k),
             _ => spoil_numbers(rng, b, shape),
