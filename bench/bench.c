@@ -3,28 +3,11 @@
 #include <stdio.h>
 #include <stdlib.h>
 #include <string.h>
-#include <time.h>
 #include "../include/plume.h"
+#include "common.h"
 #include "plain.h"
 
 typedef uint8_t step_fn(uint32_t *, size_t, const int16_t *, size_t, int32_t *, size_t, int64_t *, size_t, size_t, size_t, size_t, size_t);
-
-static uint64_t state = 88172645463325252u;
-
-static uint64_t draw(uint64_t bound)
-{
-    state ^= state << 13;
-    state ^= state >> 7;
-    state ^= state << 17;
-    return state % bound;
-}
-
-static double now(void)
-{
-    struct timespec t;
-    clock_gettime(CLOCK_MONOTONIC, &t);
-    return t.tv_sec * 1e9 + t.tv_nsec;
-}
 
 struct run {
     uint32_t *field;
