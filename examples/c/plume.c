@@ -1,5 +1,5 @@
-/* Uses the library from C: a fresh field, a wind, an emission, steps, totals, and a field file written and read back. Each answer is
- * checked; the program ends with 1 at the first that is not as it should be. */
+/* Uses the library from C: a fresh field, a wind, an emission, steps, totals, a field file written and read back, and a wind imported
+ * from records. Each answer is checked; the program ends with 1 at the first that is not as it should be. */
 #include <inttypes.h>
 #include <stdio.h>
 #include <stdlib.h>
@@ -15,6 +15,7 @@ enum {
     FIELD = 10 * ELEMENTS * SMOKES,
     FACES = 2 * ELEMENTS,
     WORK = 64 * ELEMENTS,
+    RECORD = 17, /* bytes of the longest kind of record */
     FILE_LENGTH = 2 * FACES + 4 * FIELD + 4 * (SMOKES + 1) + 12,
     EMITTED = 100000
 };
@@ -24,6 +25,7 @@ static int16_t wind[FACES], wind_again[FACES];
 static int32_t report[FACES];
 static int64_t work[WORK];
 static uint8_t file[FILE_LENGTH];
+static uint8_t records[RECORD * ELEMENTS];
 
 /* Ends the program where a call answers something else than it should. */
 static void expect(const char *call, int64_t answer, int64_t right)
@@ -72,6 +74,45 @@ static void written_and_read(void)
     expect("read of a file cut short", plume_read(field, FIELD, wind, FACES, file, (size_t)length - 1), -1);
 }
 
+/* Puts a number of a record: eight bytes, the lowest first on any machine. Gives how many. */
+static size_t put_number(uint8_t *to, double number)
+{
+    uint64_t bits;
+    memcpy(&bits, &number, sizeof bits);
+    for (int i = 0; i < 8; i++)
+        to[i] = (uint8_t)(bits >> 8 * i);
+    return 8;
+}
+
+/* Calm in the south, then a row with an east wind alone, then winds to the north-west. Gives the length of all records in bytes. */
+static size_t make_records(void)
+{
+    size_t length = 0;
+    for (size_t e = 0; e < ELEMENTS; e++) {
+        uint8_t kind = e < NX ? 0 : e < 2 * NX ? 2 : 1;
+        records[length++] = kind;
+        if (kind != 0)
+            length += put_number(records + length, kind == 2 ? 0.1 : -0.25);
+        if (kind == 1)
+            length += put_number(records + length, 0.0625);
+    }
+    return length;
+}
+
+/* 0.1 of an element per step is 409.6 of 4096, so 410. A refused import leaves the wind as it was, which the file still had. */
+static void imported(void)
+{
+    size_t length = make_records();
+    expect("import of records cut short", plume_import(wind, FACES, records, length - 1, NX, NY, SMOKES), 11);
+    expect("wind after a refused import", memcmp(wind, wind_again, sizeof wind), 0);
+    expect("import", plume_import(wind, FACES, records, length, NX, NY, SMOKES), 0);
+    printf("import: %zu bytes; east and north wind by rows:", length);
+    for (size_t j = 0; j < NY; j++)
+        printf(" %d %d%s", wind[j * NX], wind[ELEMENTS + j * NX], j + 1 < NY ? "," : "\n");
+    expect("east wind of row 1", wind[NX], 410);
+    expect("north wind of the last element", wind[FACES - 1], 256);
+}
+
 int main(void)
 {
     expect("fresh", plume_fresh(field, FIELD, wind, FACES, NX, NY, SMOKES), 0);
@@ -80,6 +121,7 @@ int main(void)
     for (int number = 1; number <= 4; number++)
         step(number);
     written_and_read();
+    imported();
     expect("withdrawal of too much", plume_withdrawal(field, FIELD, NX, NY, SMOKES, 0, 1, 2, EMITTED + 1), 10);
     expect("withdrawal", plume_withdrawal(field, FIELD, NX, NY, SMOKES, 0, 1, 2, (uint64_t)mass(1, 2)), 0);
     expect("mass of an emptied element", mass(1, 2), 0);
