@@ -47,7 +47,7 @@ fn lay(wind: &mut [i16], records: &[u8], n: usize)
     while e < n {
         let found = wind_records::winds_at(records, at);
         let Imported::Winds(w) = found else {
-            return;
+            return; // never taken: every record has passed
         };
         let east = w.east;
         let north = w.north;

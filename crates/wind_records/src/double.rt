@@ -5,11 +5,16 @@ ghost use lib.Ieee.{binary64, toBits, ofBits};
 ghost use Rattle.rules.specs.WindRecords.{exponent, finite};
 ghost use Rattle.wind_records.specs.Records.{cappedSize, cappedWind};
 
+// 2^63, the highest bit; 2^52, the leading 1 of a fraction of 52 bits.
+const SIGN: u64 = 9_223_372_036_854_775_808;
+
+const LEADING: u64 = 4_503_599_627_370_496;
+
 // The eleven bits of the exponent.
 fn exponent(bits: u64) -> u64
     ensures { λ r. ⌜ r ≡ exponent bits ⌝ }
 {
-    bits % 9223372036854775808 / 4503599627370496
+    bits % SIGN / LEADING
 }
 
 // Whether an f64 of these bits is finite.
@@ -39,7 +44,7 @@ fn wind_size(bits: u64) -> u64
     if e < 1010 {
         return 0;
     }
-    let significand = 4503599627370496 + bits % 4503599627370496;
+    let significand = LEADING + bits % LEADING;
     whole::nearest(significand, 1u64 << (1063 - e))
 }
 
@@ -50,9 +55,5 @@ pub fn face_wind(x: f64) -> i16
 {
     let bits = f64::to_bits(x);
     let size = wind_size(bits) as i16;
-    if 9223372036854775808 <= bits {
-        0 - size
-    } else {
-        size
-    }
+    if SIGN <= bits { 0 - size } else { size }
 }

@@ -30,7 +30,7 @@ pub enum Imported {
     Refused(Refusal),
 }
 
-// The bytes of a record of this kind.
+// The bytes of a record of this kind; of no known kind the kind byte alone.
 pub fn record_length(kind: u8) -> usize
     ensures { λ r. ⌜ r ≡ recordLength kind ⌝ }
 {

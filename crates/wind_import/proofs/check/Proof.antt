@@ -67,21 +67,6 @@ returns-3 : tie.Need-returns-3 Inv-loop μ-loop
 returns-3 c = none-left _ _ _ (at-end (c .before)) (c .if1 .left)
 
 pub check-spec : {M : Type 1} → statement M
-check-spec =
-    tie.close
-    (tie.spec
-    Inv-loop
-    μ-loop
-    loop-holds
-    winds-at-requires
-    (λ c. search needs)
-    returns
-    (λ c. search needs)
-    shared-slice-read-record-length
-    (λ c κs. search needs)
-    add-at
-    (λ c. search needs)
-    (λ c. search needs)
-    loop-again
-    returns-2
-    returns-3)
+check-spec = tie.close (tie.spec
+    Inv-loop μ-loop loop-holds winds-at-requires (λ c. search needs) returns (λ c. search needs) shared-slice-read-record-length (λ c κs. search needs) add-at
+    (λ c. search needs) (λ c. search needs) loop-again returns-2 returns-3)

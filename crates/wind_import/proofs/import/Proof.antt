@@ -64,18 +64,6 @@ returns-4 c =
     import-done _ _ _ (shape (else2-from-check k .before .before)) (room (else2-from-check k)) _ (k .before .elements .ensures) (all-passed t) _ (c .before .lay .ensures)
 
 pub import-spec : {M : Type 1} → statement M
-import-spec =
-    tie.close
-    (tie.spec
-    (λ c κs. search needs)
-    returns
-    faces-requires
-    returns-2
-    elements-requires
-    (λ c κs. search needs)
-    (λ c. search needs)
-    (λ c. search needs)
-    lay-requires
-    returns-3
-    (λ c. search needs)
-    returns-4)
+import-spec = tie.close (tie.spec
+    (λ c κs. search needs) returns faces-requires returns-2 elements-requires (λ c κs. search needs) (λ c. search needs) (λ c. search needs) lay-requires returns-3
+    (λ c. search needs) returns-4)

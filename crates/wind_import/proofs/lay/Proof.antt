@@ -101,27 +101,7 @@ returns-2 : tie.Need-returns-2 Inv-loop μ-loop
 returns-2 c = written-moved _ _ _ refl refl (omega arith) (c .before .loop .inv .1 .1)
 
 pub lay-spec : {M : Type 1} → statement M
-lay-spec =
-    tie.close
-    (tie.spec
-    Inv-loop
-    μ-loop
-    loop-holds
-    winds-at-requires
-    (λ c. search needs)
-    (λ c. search needs)
-    (λ c. absurd (no-refusal c))
-    (λ c. absurd (no-refusal c))
-    (λ c. search needs)
-    (λ c. search needs)
-    slice-set-from-north
-    (λ c. search needs)
-    slice-set-from-east
-    shared-slice-read-record-length
-    (λ c κs. search needs)
-    add-at
-    (λ c. search needs)
-    (λ c. search needs)
-    loop-again
-    (λ c. c .before .loop .inv .1 .1 .long)
-    returns-2)
+lay-spec = tie.close (tie.spec
+    Inv-loop μ-loop loop-holds winds-at-requires (λ c. search needs) (λ c. search needs) (λ c. absurd (no-refusal c)) (λ c. absurd (no-refusal c)) (λ c. search needs)
+    (λ c. search needs) slice-set-from-north (λ c. search needs) slice-set-from-east shared-slice-read-record-length (λ c κs. search needs) add-at (λ c. search needs)
+    (λ c. search needs) loop-again (λ c. c .before .loop .inv .1 .1 .long) returns-2)

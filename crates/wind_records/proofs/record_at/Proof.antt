@@ -105,23 +105,6 @@ returns-6 c =
     (c .before .of-bits2 .ensures ∙ ap (ofBits binary64) (b .before .before .number64 .ensures)) (c .of-bits3 .ensures ∙ ap (ofBits binary64) (n .number642 .ensures))
 
 pub record-at-spec : {M : Type 1} → statement M
-record-at-spec =
-    tie.close
-    (tie.spec
-    (λ c κs. search needs)
-    returns
-    shared-slice-read-kind
-    returns-2
-    (λ c. search needs)
-    number64-requires
-    (λ c κs. search needs)
-    returns-3
-    of-bits-requires
-    returns-4
-    (λ c. search needs)
-    number64-requires-2
-    (λ c κs. search needs)
-    returns-5
-    of-bits-requires-2
-    of-bits-requires-3
-    returns-6)
+record-at-spec = tie.close (tie.spec
+    (λ c κs. search needs) returns shared-slice-read-kind returns-2 (λ c. search needs) number64-requires (λ c κs. search needs) returns-3 of-bits-requires returns-4
+    (λ c. search needs) number64-requires-2 (λ c κs. search needs) returns-5 of-bits-requires-2 of-bits-requires-3 returns-6)

@@ -59,16 +59,5 @@ returns-4 c =
     (sym (east-test (f .before)) ∙ not-false _ (f .if1 .left)) (sym (north-test (c .before)) ∙ not-false _ (c .if2 .left))
 
 pub winds-at-spec : {M : Type 1} → statement M
-winds-at-spec =
-    tie.close
-    (tie.spec
-    (λ c κs. search needs)
-    (λ c. search needs)
-    (λ c. search needs)
-    winds-of-requires
-    (λ c κs. search needs)
-    returns
-    (λ c κs. search needs)
-    returns-2
-    returns-3
-    returns-4)
+winds-at-spec = tie.close (tie.spec
+    (λ c κs. search needs) (λ c. search needs) (λ c. search needs) winds-of-requires (λ c κs. search needs) returns (λ c κs. search needs) returns-2 returns-3 returns-4)
