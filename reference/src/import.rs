@@ -74,8 +74,9 @@ fn first_record(bytes: &[u8]) -> Result<(Record, &[u8]), u8> {
 }
 
 fn first_number(bytes: &[u8]) -> Result<(u64, &[u8]), u8> {
-    let (number, rest) = bytes.split_first_chunk().ok_or(BAD_RECORD)?;
-    Ok((u64::from_le_bytes(*number), rest))
+    let number = bytes.get(..8).ok_or(BAD_RECORD)?;
+    let number = u64::from_le_bytes(number.try_into().expect("eight bytes"));
+    Ok((number, &bytes[8..]))
 }
 
 /// The east and the north C of a whole record. "12 is a number not finite,
@@ -96,8 +97,9 @@ fn face_winds(record: Record) -> Result<(i16, i16), u8> {
 
 /// Refusal 5 regards C, so only what is beyond ±1024 after rounding.
 fn c_in_range(number: FaceWind) -> Result<i16, u8> {
-    let FaceWind::Whole(c) = number else {
-        return Err(BAD_WIND);
+    let c = match number {
+        FaceWind::Whole(c) => c,
+        _ => return Err(BAD_WIND),
     };
     let c = i16::try_from(c).map_err(|_| BAD_WIND)?;
     wind_in_range(c)?;

@@ -1,10 +1,13 @@
 //! From 64 bits to C. Only these tests use floats: the numbers are easier to
 //! read so, and f64's own arithmetic is one of the two other ways to C.
 
+mod rounding;
+
 use reference::face_wind;
 use reference::import_numbers::{exact, EDGE};
 use reference::rng::Rng;
 use reference::FaceWind::{self, Beyond, NotFinite, Whole};
+use rounding::to_nearest_even;
 
 const SIGN: u64 = 1 << 63;
 
@@ -109,7 +112,7 @@ fn by_floats(bits: u64) -> FaceWind {
     if !number.is_finite() {
         return NotFinite;
     }
-    let c = (number * 4096.0).round_ties_even();
+    let c = to_nearest_even(number * 4096.0);
     if c.abs() >= 2_f64.powi(117) {
         return Beyond;
     }

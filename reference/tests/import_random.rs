@@ -1,6 +1,7 @@
 //! Random records: what the generator meets, the import held to a reading of
 //! the records by floats, and lists in which wind calls replace the imports.
 
+mod rounding;
 mod walk;
 
 use reference::import_generator::records;
@@ -86,8 +87,9 @@ impl Met {
 fn every_fault_is_met_at_every_place() {
     let mut met = Met::default();
     for (elements, _, walk) in draws().filter(|(elements, ..)| *elements >= 3) {
-        let Some(&(number, at)) = walk.faults.first() else {
-            continue;
+        let (number, at) = match walk.faults.first() {
+            Some(first) => *first,
+            None => continue,
         };
         let place = match at {
             0 => "first",

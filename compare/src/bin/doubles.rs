@@ -196,9 +196,12 @@ fn arguments() -> Option<(u64, u64)> {
 }
 
 fn main() -> ExitCode {
-    let Some((count, seed)) = arguments() else {
-        eprintln!("usage: doubles [COUNT [SEED]]");
-        return ExitCode::from(2);
+    let (count, seed) = match arguments() {
+        Some(both) => both,
+        None => {
+            eprintln!("usage: doubles [COUNT [SEED]]");
+            return ExitCode::from(2);
+        }
     };
     let mut counts = Counts::default();
     let start = Instant::now();

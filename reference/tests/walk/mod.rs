@@ -1,6 +1,8 @@
 //! A second reading of wind records, by f64's own arithmetic. It does not
 //! stop at a number's fault, so that it tells all faults in their order.
 
+use super::rounding::to_nearest_even;
+
 #[derive(Default)]
 pub struct Walk {
     /// Refusals in their order, each with its record; the first one answers.
@@ -48,7 +50,7 @@ impl Walk {
             self.faults.push((12, element));
         }
         // 4096 times a number is exact, or an infinity far above all winds.
-        let c = |number: &f64| (number * 4096.0).round_ties_even();
+        let c = |number: &f64| to_nearest_even(number * 4096.0);
         let beyond = |number: &f64| number.is_finite() && c(number).abs() > 1024.0;
         let c16 = |number: &f64| c(number) as i16;
         if numbers.iter().any(beyond) {
