@@ -22,7 +22,7 @@
  *    1 no field file: fewer than 12 bytes, wrong mark, or fourth byte of the tail not 0
  *    2 shape outside its ranges
  *    3 the file's offsets or length differ from what its shape gives
- *    4 a buffer is shorter than needed (a short file is 1 or 3, short records are 11)
+ *    4 a buffer is shorter than needed (a short file of plume_read is 1 or 3, short records are 11)
  *    5 a wind number outside -1024 to 1024
  *    6 a remainder above 35 or a total above 100,000,000: of the named smoke; in plume_read and plume_write of any
  *    7 no such smoke

@@ -1,5 +1,4 @@
 // What calls leave in the buffers: whole elements, surplus numbers, and grids of one row or column.
-ghost use Rattle.rules.specs.Field.{elements};
 use super::buffers;
 use super::calls;
 use super::show;

@@ -1,5 +1,4 @@
 // Each refusal of each call.
-ghost use Rattle.rules.specs.Field.{elements};
 use super::buffers;
 use super::calls;
 use rules::Shape;

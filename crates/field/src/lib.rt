@@ -1,6 +1,6 @@
 // The calls on a field: fresh, wind, load, emission, withdrawal and the readings.
 // A call has no `requires`: what document 01 doesn't admit is refused by its number, and a refused call writes nothing.
-ghost use Rattle.rules.specs.Field.{quadratic, faces, elements};
+ghost use Rattle.rules.specs.Field.{quadratic};
 ghost use Rattle.rules.specs.Calls.{load, emission, withdrawal, massReading, totalReading, answers, reads, CallGives, FreshGives, WindGives, oneFace};
 use field_search::LIMIT;
 use rules::Face;

@@ -1,6 +1,6 @@
 // Shapes, and where the numbers of a shape stand in its buffers. All but the tests are leaves, for an admitted shape.
 ghost use mathlib.Core.Path.{_≡_};
-ghost use Prim.Native.Nat.{_*_, _+_, _<_};
+ghost use Prim.Native.Nat.{_*_, _<_};
 ghost use Rattle.rules.specs.Field.{quadratic, from1to, admitted, elements, faces, onGrid, elementsLength, partLength, fieldLength, Admitted, windInRange};
 ghost use Rattle.rules.specs.Grid.{faceIndex};
 ghost use Rattle.field_layout.specs.Places.{Inside, elementStart};

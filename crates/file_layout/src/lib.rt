@@ -4,7 +4,7 @@ ghost use Prim.Native.Nat.{_+_, _≤_};
 ghost use lib.Dec.{eqb};
 ghost use lib.ListN.{length, getD};
 ghost use Rattle.whole.specs.Sum.{all};
-ghost use Rattle.rules.specs.Field.{quadratic, Admitted, faces};
+ghost use Rattle.rules.specs.Field.{quadratic, Admitted};
 ghost use Rattle.rules.specs.Bytes.{byteAt};
 ghost use Rattle.rules.specs.FieldFile.{mark, sectionStart, tableStart, fileLength};
 use rules::Shape;

@@ -2,7 +2,7 @@
 ghost use mathlib.Core.Path.{_≡_};
 ghost use lib.ListN.{length};
 ghost use Rattle.rules.specs.Answers.{outcome};
-ghost use Rattle.rules.specs.Field.{quadratic, Admitted, faces};
+ghost use Rattle.rules.specs.Field.{quadratic, Admitted};
 ghost use Rattle.rules.specs.FieldFile.{fileLength, offsetsRight, fileField, fieldSound};
 ghost use Rattle.file_reading.specs.Reading.{shapeReply};
 use rules::Outcome;

@@ -91,7 +91,7 @@ module _ (κ : Kind) (g : Shape) where
   unfolding ledgerFrom
   ledger cs replies = ledgerFrom (λ s e. pos 0) cs replies
 
--- ---- striking all calls on the other tracers than s: "wind calls are never struck"
+-- ---- striking all calls on the other tracers than s: "wind calls are never struck", nor are imports
 unfoldable pub stays : ℕ → Call → Bool
 stays s (onWind c) = true
 stays s (on t op) = eqb t s

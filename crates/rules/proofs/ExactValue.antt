@@ -1,6 +1,6 @@
 -- The exact value of an f64 by its bits is the value that the toolchain's meaning of f64 gives it.
 use mathlib.Core.Path.{_≡_, subst}
-use mathlib.Core.Bool.{Bool, not, cond}
+use mathlib.Core.Bool.{Bool, cond}
 use Prim.Native.Nat.{ℕ, zero, suc, _+_, _*_, _-_, _^_}
 use borrow.Author.Tests.{ne-eqb, eqb-false, not-true}
 use native.Mathlib.Nat.{mul-one}

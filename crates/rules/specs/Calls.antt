@@ -194,11 +194,12 @@ pub data WindCall : Type 0 where
   fromRecords : List ℕ → WindCall
 
 module _ (g : Shape) where
-  -- of a wind call 5 and 8; of an import: "then 4 for the wind buffer, then records in order"
+  -- after 2 and 4: of a wind call 5 and 8; of an import "then records in order"
   abbrev pub ownChecks : WindCall → List Check
   ownChecks (oneFace f) = check 5 (windInRange (f .wind)) ∷ check 8 (onGrid g (f .i) (f .j)) ∷ []
   ownChecks (fromRecords records) = allRecordChecks records (elements g)
 
+  -- of an import: "the old 2, then 4 for the wind buffer"
   abbrev pub windChecks : WindCall → List ℤ → List Check
   windChecks c wind = check 2 (admitted g) ∷ check 4 (leb (faces g) (length wind)) ∷ ownChecks c
 

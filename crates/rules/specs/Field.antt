@@ -49,7 +49,7 @@ onGrid g i j = ltb i (g .nx) && ltb j (g .ny)
 abbrev pub northFace : Shape → ℕ → ℕ
 northFace g e = elements g + e
 
--- a stored wind, "−1024 to 1024"
+-- C, "−1024 to 1024"
 abbrev pub windInRange : ℤ → Bool
 windInRange c = leb (natAbs c) 1024
 

@@ -4,7 +4,7 @@ ghost use mathlib.Core.Path.{_≡_};
 ghost use mathlib.Core.Bool.{_&&_};
 ghost use lib.Dec.{leb};
 ghost use Rattle.rules.specs.Answers.{plain};
-ghost use Rattle.rules.specs.Field.{quadratic, faces, workNeeded, fieldLength, Admitted, elements};
+ghost use Rattle.rules.specs.Field.{quadratic, faces, workNeeded, fieldLength, Admitted};
 ghost use Rattle.rules.specs.Calls.{step, lengthsLent, call, answers, StepGives};
 use rules::Outcome;
 use rules::Reading;

@@ -1,7 +1,7 @@
 // Where the numbers of a step stand in work, which no other crate computes. Leaves, for an admitted shape.
 ghost use mathlib.Core.Path.{_≡_};
 ghost use Prim.Native.Nat.{_<_};
-ghost use Rattle.rules.specs.Field.{Admitted, faces, elements};
+ghost use Rattle.rules.specs.Field.{Admitted};
 ghost use Rattle.step_layout.specs.Sections.{stageLength, stageStart, sumsStart, fluxesStart, northFluxesStart, massesStart, outflowsStart};
 use rules::Shape;
 use rules::element::NODES;

@@ -1,7 +1,7 @@
 -- The stages by number, in work: stage m + 1 is stage 0 and the sum of the tendencies of stages 0 .. m, each by its factor, divided.
 -- Document 01's φ1, φ2 and ψ are stages 1, 2 and 3; `StagesLaws` says so.
 use mathlib.Core.List.{List, [], _∷_}
-use Prim.Native.Nat.{ℕ, _+_, _*_, _/_, _%_, _≤_, _<_}
+use Prim.Native.Nat.{ℕ, _+_, _/_, _%_, _≤_, _<_}
 use lib.IntN.{ℤ, pos, _+ℤ_, _*ℤ_}
 use lib.ListN.{length, getD, take, drop}
 use Rattle.whole.specs.Table.{at}

@@ -1,7 +1,7 @@
 // Upwind values, and the tendencies of one element of the grid. A stage is lent as nine numbers an element.
 // Every function here is a leaf: the element is on the grid, the stage has its numbers, and winds and values are in their ranges.
 ghost use mathlib.Core.Path.{_≡_};
-ghost use Prim.Native.Nat.{_+_, _*_, _≤_, _<_};
+ghost use Prim.Native.Nat.{_+_, _≤_, _<_};
 ghost use lib.ListN.{length};
 ghost use Rattle.whole.specs.Bound.{Are, AllWithin};
 ghost use Rattle.whole.specs.Table.{table, at};

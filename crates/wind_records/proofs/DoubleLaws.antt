@@ -118,9 +118,9 @@ module _ (bits : ℕ) where
       cut n l = rw (le-leb n 4096 (omega (arith, size-of (signBit bits) n)))
 
 -- ---- what the code asks
-pub kept-small : (bits : ℕ) → cappedSize bits ≤ 4096
+pub capped-small : (bits : ℕ) → cappedSize bits ≤ 4096
 unfolding cappedSize
-kept-small bits = cut (natAbs (faceWind bits))
+capped-small bits = cut (natAbs (faceWind bits))
   where
     cut : (n : ℕ) → capped n ≤ 4096
     cut n = cond-ind (leb n 4096) n 4096 (λ x. x ≤ 4096) (λ t. leb→le n 4096 t) (λ _. omega arith)
@@ -159,15 +159,15 @@ negated-fits n h = subst (SFits w16) (sym (negated n h)) (neg-fits n h)
 -- a wind is the same when it is read back from its 16 bits
 pub read-wind : (z : ℤ) (bits : ℕ) → z ≡ cappedWind bits → toZ w16 (ofZ w16 z) ≡ cappedWind bits
 unfolding cappedWind
-read-wind z bits e = ap (λ x. toZ w16 (ofZ w16 x)) e ∙ toZ-ofZ w16 (cappedWind bits) (kept-fits (signBit bits) (cappedSize bits) (kept-small bits))
+read-wind z bits e = ap (λ x. toZ w16 (ofZ w16 x)) e ∙ toZ-ofZ w16 (cappedWind bits) (signed-fits (signBit bits) (cappedSize bits) (capped-small bits))
   where
-    kept-fits : (s : Bool) (n : ℕ) → n ≤ 4096 → SFits w16 (signed s n)
-    kept-fits true n h = neg-fits n h
-    kept-fits false n h = record { sfits = omega arith }
+    signed-fits : (s : Bool) (n : ℕ) → n ≤ 4096 → SFits w16 (signed s n)
+    signed-fits true n h = neg-fits n h
+    signed-fits false n h = record { sfits = omega arith }
 
-pub zero-kept : cappedWind 0 ≡ pos 0
+pub capped-zero : cappedWind 0 ≡ pos 0
 unfolding cappedWind cappedSize faceWind exactValue magnitude nearest nearestNatural
-zero-kept = refl
+capped-zero = refl
 
 -- the bits of a finite f64 are no NaN's
 pub no-nan-bits : (bits : ℕ) → T (finite bits) → T (not (nanBits binary64 bits))

@@ -18,28 +18,28 @@ use Rattle.rules.specs.WindRecords.{finite, faceWind, components, componentsAt,
 use Rattle.rules.proofs.AnswerLaws.{accepted-is, prefix-refused, prefix-accepted}
 use Rattle.wind_records.specs.declared.Winds.{Winds}
 use Rattle.wind_records.specs.Records.{cappedWind, windsAt}
-use Rattle.wind_records.proofs.DoubleLaws.{read-wind, zero-kept, range-kept, wind-kept}
+use Rattle.wind_records.proofs.DoubleLaws.{read-wind, capped-zero, range-kept, wind-kept}
 
 -- ---- the winds of a record, by its case
 -- what the code returns, read back from its bits
-abbrev Kept : WindRecord → ℤ → ℤ → Type 0
-Kept w a b = (a ≡ cappedWind (components w .eastBits)) × (b ≡ cappedWind (components w .northBits))
+abbrev Capped : WindRecord → ℤ → ℤ → Type 0
+Capped w a b = (a ≡ cappedWind (components w .eastBits)) × (b ≡ cappedWind (components w .northBits))
 
 abbrev back : ℤ → ℤ
 back z = toZ w16 (ofZ w16 z)
 
 module _ (w : WindRecord) where
-  pub calm-winds : w ≡ Calm → Kept w (pos 0) (pos 0)
+  pub calm-winds : w ≡ Calm → Capped w (pos 0) (pos 0)
   unfolding components
-  calm-winds e = subst (λ x. Kept x (pos 0) (pos 0)) (sym e) (sym zero-kept, sym zero-kept)
+  calm-winds e = subst (λ x. Capped x (pos 0) (pos 0)) (sym e) (sym capped-zero, sym capped-zero)
 
-  pub both-winds : (p : WindPair) (a b : ℤ) → w ≡ Both p → a ≡ cappedWind (toBits binary64 (p .east)) → b ≡ cappedWind (toBits binary64 (p .north)) → Kept w (back a) (back b)
+  pub both-winds : (p : WindPair) (a b : ℤ) → w ≡ Both p → a ≡ cappedWind (toBits binary64 (p .east)) → b ≡ cappedWind (toBits binary64 (p .north)) → Capped w (back a) (back b)
   unfolding components
-  both-winds p a b e f g = subst (λ x. Kept x (back a) (back b)) (sym e) (read-wind a (toBits binary64 (p .east)) f, read-wind b (toBits binary64 (p .north)) g)
+  both-winds p a b e f g = subst (λ x. Capped x (back a) (back b)) (sym e) (read-wind a (toBits binary64 (p .east)) f, read-wind b (toBits binary64 (p .north)) g)
 
-  pub east-winds : (x : Float) (a : ℤ) → w ≡ East x → a ≡ cappedWind (toBits binary64 x) → Kept w (back a) (pos 0)
+  pub east-winds : (x : Float) (a : ℤ) → w ≡ East x → a ≡ cappedWind (toBits binary64 x) → Capped w (back a) (pos 0)
   unfolding components
-  east-winds x a e f = subst (λ y. Kept y (back a) (pos 0)) (sym e) (read-wind a (toBits binary64 x) f, sym zero-kept)
+  east-winds x a e f = subst (λ y. Capped y (back a) (pos 0)) (sym e) (read-wind a (toBits binary64 x) f, sym capped-zero)
 
   -- its numbers are finite
   module _ (f : T (finite (components w .eastBits))) where
@@ -84,7 +84,7 @@ module _ (records : List ℕ) (p : ℕ) where
       subst (λ c. T (finite (c .eastBits)) × T (finite (c .northBits))) (sym (h .1)) (both-yes (finite (componentsAt records p .eastBits)) (finite (componentsAt records p .northBits)) (h .0 .1 .0))
 
   -- read as w, whose winds are a and b, of which the sizes are cut
-  module _ (w : WindRecord) (e : accepted (components w) ≡ answer (readingChecks records p) (componentsAt records p)) (a b : ℤ) (k : Kept w a b) where
+  module _ (w : WindRecord) (e : accepted (components w) ≡ answer (readingChecks records p) (componentsAt records p)) (a b : ℤ) (k : Capped w a b) where
     abbrev inEast : Bool
     inEast = windInRange (faceWind (componentsAt records p .eastBits))
 

@@ -21,6 +21,7 @@ unfoldable pub cappedWind : ℕ → ℤ
 unfolding cappedSize
 cappedWind bits = cond (signBit bits) (negℤ (pos (cappedSize bits))) (pos (cappedSize bits))
 
+-- what stands at a place, as an answer: the record by its components
 unfoldable pub found : Found → Answer Components
 unfolding components
 found (Found.Record w) = accepted (components w)
@@ -31,6 +32,7 @@ unfoldable pub windsAt : List ℕ → ℕ → Winds
 unfolding componentsAt faceWind
 windsAt records p = record { east = eastAt records p; north = northAt records p }
 
+-- what a record gives its element, as an answer
 unfoldable pub imported : Imported → Answer Winds
 imported (Imported.Winds w) = accepted w
 imported (Imported.Refused r) = refused (number r)

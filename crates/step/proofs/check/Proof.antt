@@ -3,7 +3,6 @@ use mathlib.Core.Path.{_≡_, sym, ap, _∙_}
 use mathlib.Core.Bool.{true}
 use borrow.Author.Needs.{needs}
 use borrow.Author.Tests.{not-true, not-false}
-use Prim.Native.Nat.{_-_}
 use lib.Dec.{T, leb→le, leb}
 use lib.ListN.{length}
 use Rattle.whole.proofs.Cases.{both-yes}

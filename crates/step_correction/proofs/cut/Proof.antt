@@ -1,7 +1,7 @@
 use mathlib.Core.Path.{sym, ap₂, _∙_}
 use Prim.Native.Nat.{_<_}
 use native.Mathlib.Omega.{arith}
-use lib.IntN.{ℤ, _*ℤ_}
+use lib.IntN.{_*ℤ_}
 use lib.Signed.{leZ, quotZ}
 use mir.Facts.{toZ-ofZ}
 use Rattle.whole.specs.Parts.{positive}

@@ -1,7 +1,7 @@
 -- One element's sums and values of the next stage: the invariant is both stretches of work, written as far as the turn's node. The machine's
 -- numbers are the definition's, since each is within its size.
 use mathlib.Core.Path.{_≡_, sym, ap, ap₂, subst, _∙_}
-use Prim.Native.Nat.{_≤_, _-_, _+_, _*_}
+use Prim.Native.Nat.{_≤_, _-_, _+_}
 use borrow.Author.Needs.{needs}
 use native.Mathlib.Omega.{arith}
 use lib.IntN.{ℤ, _+ℤ_, _*ℤ_}

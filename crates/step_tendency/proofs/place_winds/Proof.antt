@@ -1,7 +1,7 @@
 -- After q turns the first q numbers are the weighted winds of their places: a loop that fills, each number exact by its size.
 use mathlib.Core.Path.{_≡_, refl, sym, ap₂, _∙_}
 use mathlib.Core.List.{_++_, append-nil}
-use Prim.Native.Nat.{_≤_, _-_, _+_}
+use Prim.Native.Nat.{_≤_, _-_}
 use borrow.Author.Needs.{needs}
 use native.Mathlib.Omega.{arith}
 use lib.ListN.{length, drop, length-set}

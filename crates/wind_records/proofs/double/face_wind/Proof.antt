@@ -7,12 +7,12 @@ use lib.IntN.{pos, negℤ, _-ℤ_}
 use mir.Syntax.{w16}
 use mir.Val.{toZ}
 use mir.ValLaws.{toZ-ofZ, toZ-pos}
-use Rattle.wind_records.proofs.DoubleLaws.{no-nan, kept-small, below-zero, not-below-zero, negated, negated-fits}
+use Rattle.wind_records.proofs.DoubleLaws.{no-nan, capped-small, below-zero, not-below-zero, negated, negated-fits}
 use Rattle.wind_records.proofs.double.face_wind.Statement.{statement}
 use Rattle.wind_records.proofs.double.face_wind.Tie as tie
 
 small : (c : tie.After-wind-size) → c .wind-size .result ≤ 4096
-small c = subst (λ n. n ≤ 4096) (sym (c .wind-size .ensures)) (kept-small (toBits binary64 (c .before .args .x)))
+small c = subst (λ n. n ≤ 4096) (sym (c .wind-size .ensures)) (capped-small (toBits binary64 (c .before .args .x)))
 
 cast-size : tie.Need-cast-size
 cast-size c = omega (arith, small c)
