@@ -29,27 +29,27 @@ module _ (g : Shape) where
 
 -- ---- wind
 module _ (g : Shape) (f : Face) (w : List ℤ) where
-  abbrev WindCall : Answer (Unit {0}) → List ℤ → Type 0
-  WindCall a new = (a ≡ windReply g (oneFace f) w) × (new ≡ windAfter g (oneFace f) w)
+  abbrev WindAnswered : Answer (Unit {0}) → List ℤ → Type 0
+  WindAnswered a new = (a ≡ windReply g (oneFace f) w) × (new ≡ windAfter g (oneFace f) w)
 
-  pub wind-2 : admitted g ≡ false → WindCall (refused 2) w
+  pub wind-2 : admitted g ≡ false → WindAnswered (refused 2) w
   unfolding windReply windAfter answer after
   wind-2 a = rw a (refl, refl)
 
-  pub wind-4 : admitted g ≡ true → length w < faces g → WindCall (refused 4) w
+  pub wind-4 : admitted g ≡ true → length w < faces g → WindAnswered (refused 4) w
   unfolding windReply windAfter answer after
   wind-4 a l = rw (a, lt-leb (faces g) (length w) l) (refl, refl)
 
-  pub wind-5 : admitted g ≡ true → faces g ≤ length w → windInRange (f .wind) ≡ false → WindCall (refused 5) w
+  pub wind-5 : admitted g ≡ true → faces g ≤ length w → windInRange (f .wind) ≡ false → WindAnswered (refused 5) w
   unfolding windReply windAfter answer after
   wind-5 a l r = rw (a, le-leb (faces g) (length w) l, r) (refl, refl)
 
-  pub wind-8 : admitted g ≡ true → faces g ≤ length w → windInRange (f .wind) ≡ true → onGrid g (f .i) (f .j) ≡ false → WindCall (refused 8) w
+  pub wind-8 : admitted g ≡ true → faces g ≤ length w → windInRange (f .wind) ≡ true → onGrid g (f .i) (f .j) ≡ false → WindAnswered (refused 8) w
   unfolding windReply windAfter answer after
   wind-8 a l r o = rw (a, le-leb (faces g) (length w) l, r, o) (refl, refl)
 
   pub wind-done : admitted g ≡ true → faces g ≤ length w → windInRange (f .wind) ≡ true → onGrid g (f .i) (f .j) ≡ true
-      → WindCall (accepted tt) (set w (faceIndex g (f .way) (f .i) (f .j)) (f .wind))
+      → WindAnswered (accepted tt) (set w (faceIndex g (f .way) (f .i) (f .j)) (f .wind))
   unfolding windReply newWind windAfter answer after
   wind-done a l r o = rw (a, le-leb (faces g) (length w) l, r, o) (refl, refl)
 
