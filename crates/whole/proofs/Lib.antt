@@ -11,3 +11,4 @@ pub mod Sizes
 pub mod FloorLaws
 pub mod NearestLaws
 pub mod NearestOne
+pub mod NearestFloor

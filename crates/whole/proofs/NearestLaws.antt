@@ -3,13 +3,15 @@ use mathlib.Core.Path.{_≡_, refl, sym, ap, _∙_}
 use mathlib.Core.Bool.{Bool, true, false, cond}
 use Prim.Native.Nat.{ℕ, zero, suc, _+_, _*_, _/_, _%_, _≤_, _<_}
 use borrow.Author.Tests.{lt-ltb, le-ltb, ltb-true, ltb-false}
-use native.Mathlib.Nat.{add-zero, zero-div, zero-mod, div-add-mod', le-mul-of-pos-right, le-div-iff-mul-le, div-lt-iff-lt-mul, div-eq-of-lt, mod-eq-of-lt, mul-assoc, mul-comm, mul-div-cancel, mul-div-mul-right, mul-mod-left, mul-le-mul-right, mul-lt-mul-of-pos-right}
+use native.Mathlib.Nat.{add-zero, zero-div, zero-mod, div-add-mod', le-mul-of-pos-right, le-div-iff-mul-le, le-of-mul-le-mul-right, lt-of-mul-lt-mul-right, div-eq-of-lt, mod-eq-of-lt, mul-assoc, mul-comm, mul-div-cancel, mul-div-mul-right, mul-mod-left, mul-le-mul-right, mul-lt-mul-of-pos-right}
 use native.Mathlib.Omega.{arith}
 use lib.Arith.{mod-mul}
-use lib.Dec.{ltb}
-use lib.IntN.{pos, negℤ}
+use lib.Dec.{ltb, nltb→le}
+use lib.IntN.{ℤ, pos, negsuc, negℤ, natAbs}
+use Rattle.whole.specs.Bound.{Within}
 use Rattle.whole.specs.Nearest.{nearestNatural, nearest}
 use Rattle.whole.proofs.Cases.{cond-ind, cond-same}
+use Rattle.whole.proofs.WholeLaws.{abs-neg}
 
 module _ (n d : ℕ) where
   pub quotient : 2 * (n % d) < d → n / d ≡ nearestNatural n d
@@ -34,12 +36,15 @@ module _ (n d k : ℕ) (h : 0 < d) where
   unfolding nearestNatural
   at-least l = omega (arith, le-div-iff-mul-le {x = k} {y = n} h .1 l)
 
-  pub at-most : n < k * d → nearestNatural n d ≤ k
+  -- the bound itself is reached only without a rest
+  pub at-most : n ≤ k * d → nearestNatural n d ≤ k
   unfolding nearestNatural
-  at-most l =
-      let q : n / d < k = div-lt-iff-lt-mul {x = n} {y = k} h .1 l in
-      cond-ind (ltb (2 * (n % d)) d) 0 (cond (ltb d (2 * (n % d))) 1 (n / d % 2)) (λ x. n / d + x ≤ k) (λ _. omega arith)
-      (λ _. cond-ind (ltb d (2 * (n % d))) 1 (n / d % 2) (λ x. n / d + x ≤ k) (λ _. omega arith) (λ _. omega arith))
+  at-most l = cond-ind (ltb (2 * (n % d)) d) 0 (cond (ltb d (2 * (n % d))) 1 (n / d % 2)) (λ x. n / d + x ≤ k)
+      (λ _. omega (arith, le-of-mul-le-mul-right {m = n / d} {n = k} {k = d} (omega (arith, div-add-mod' n d)) h))
+      (λ t.
+      let half = nltb→le (2 * (n % d)) d t in
+      let q : n / d < k = lt-of-mul-lt-mul-right d (omega (arith, div-add-mod' n d)) in
+      cond-ind (ltb d (2 * (n % d))) 1 (n / d % 2) (λ x. n / d + x ≤ k) (λ _. omega arith) (λ _. omega arith))
 
 pub rounds-to-zero : (n d : ℕ) → 2 * n < d → nearestNatural n d ≡ 0
 unfolding nearestNatural
@@ -74,3 +79,13 @@ pub nearest-neg : (n d : ℕ) → nearest (negℤ (pos n)) d ≡ negℤ (pos (ne
 unfolding nearest nearestNatural
 nearest-neg zero d = rw (zero-div d, zero-mod d, le-ltb d 0 (omega arith), cond-same {A = ℕ} (ltb 0 d))
 nearest-neg (suc n) d = refl
+
+-- ---- the size
+pub abs-nearest : (z : ℤ) (d : ℕ) → natAbs (nearest z d) ≡ nearestNatural (natAbs z) d
+unfolding nearest
+abs-nearest (pos n) d = refl
+abs-nearest (negsuc n) d = abs-neg (pos (nearestNatural (suc n) d))
+
+-- to the nearest by d, what is within b d is within b
+pub within-nearest : (z : ℤ) (d b : ℕ) → 0 < d → Within (b * d) z → Within b (nearest z d)
+within-nearest z d b h p = record { within = rw (abs-nearest z d) (at-most (natAbs z) d b h (p .within)) }

@@ -20,7 +20,7 @@ unfolding positive negative
 abs-gap (pos n) = omega arith
 abs-gap (negsuc n) = omega arith
 
-distance : (z : ℤ) (d : ℕ) (r : ℤ) → natAbs (z -ℤ pos d *ℤ r) ≡ gap (positive z + d * negative r) (negative z + d * positive r)
+pub distance : (z : ℤ) (d : ℕ) (r : ℤ) → natAbs (z -ℤ pos d *ℤ r) ≡ gap (positive z + d * negative r) (negative z + d * positive r)
 distance z d r = omega (arith, abs-gap (z -ℤ pos d *ℤ r), sub-parts-of z (pos d *ℤ r), positive-mul d r, negative-mul d r)
 
 distance-neg : (z : ℤ) (d : ℕ) (r : ℤ) → natAbs (negℤ z -ℤ pos d *ℤ negℤ r) ≡ natAbs (z -ℤ pos d *ℤ r)
