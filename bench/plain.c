@@ -102,7 +102,8 @@ static int64_t face_flux(const int64_t *work, size_t n, int64_t c, size_t at, si
     int64_t sum = 0;
     for (int r = 0; r < 3; r++, at += stride)
         sum += WEIGHTS[r] * (work[at] + 4 * work[18 * n + at] + work[9 * n + at]);
-    return c * sum / 4096;
+    int64_t product = c * sum;
+    return (2 * product + 4095 + (product >> 12 & 1)) >> 13;
 }
 
 static void fluxes(int64_t *work, const int16_t *wind, size_t nx, size_t n)

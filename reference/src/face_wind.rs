@@ -2,7 +2,7 @@
 //! becomes C, the whole number nearest 4096 times its exact binary value,
 //! the even one at a half" (request 2026-01).
 
-use std::cmp::Ordering;
+use crate::nearest::nearest;
 
 /// What the 64 bits give.
 #[derive(Clone, Copy, Debug, PartialEq, Eq)]
@@ -43,7 +43,7 @@ pub fn face_wind(bits: u64) -> FaceWind {
     };
     // Rounding to the even one treats both signs alike, so the sign can wait;
     // −0 becomes 0 by it.
-    match nearest(significand, power + SCALE_POWER) {
+    match whole(significand, power + SCALE_POWER) {
         None => FaceWind::Beyond,
         Some(size) if negative => FaceWind::Whole(-size),
         Some(size) => FaceWind::Whole(size),
@@ -53,7 +53,7 @@ pub fn face_wind(bits: u64) -> FaceWind {
 /// The whole number nearest significand · 2^power, "the even one at a half".
 /// None above the highest power: only normal numbers get there, of which the
 /// significand is at least 2^52, so it would be 2^117 or more.
-fn nearest(significand: u64, power: i32) -> Option<i128> {
+fn whole(significand: u64, power: i32) -> Option<i128> {
     let significand = i128::from(significand);
     if power > HIGHEST_POWER {
         return None;
@@ -65,11 +65,5 @@ fn nearest(significand: u64, power: i32) -> Option<i128> {
     if places > MOST_PLACES {
         return Some(0);
     }
-    let unit = 1_i128 << places;
-    let (whole, rest) = (significand / unit, significand % unit);
-    Some(match rest.cmp(&(unit / 2)) {
-        Ordering::Less => whole,
-        Ordering::Greater => whole + 1,
-        Ordering::Equal => whole + whole % 2,
-    })
+    Some(nearest(significand, 1 << places))
 }

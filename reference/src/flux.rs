@@ -1,16 +1,19 @@
 //! Face amounts and flux correction. Faces stand in the wind's order.
 
 use crate::closing::Nodes;
+use crate::nearest::nearest;
 use crate::shape::{Shape, OMEGA};
 use crate::tendency::Winds;
 
-/// "G = C · Σ ω·(p0 + 4·p2 + p1) / 4096, truncated toward zero": the whole
-/// product is divided, and Rust's `/` truncates.
+/// "G = C · Σ ω·(p0 + 4·p2 + p1) / 4096", the whole product divided. Document
+/// 01 truncates it toward zero; document 02, 2026-02: "now rounds face amounts
+/// to the nearest whole number, an exact half to the even one. G follows."
 pub fn face_amount(c: i128, face_sum: i128) -> i128 {
-    c * face_sum / 4096
+    nearest(c * face_sum, 4096)
 }
 
 /// "G* = G if Out ≤ M, else |G| becomes floor(|G| · M / Out), sign kept."
+/// Document 02, 2026-02: "The cut in the flux correction still uses floor."
 pub fn cut(g: i128, mass: i128, out: i128) -> i128 {
     if out <= mass {
         return g;

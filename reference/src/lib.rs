@@ -1,11 +1,12 @@
 //! Reference implementation of document 01, "Smoke transport with
-//! whole-number TMAR", and of request 2026-01, "Wind from the weather
-//! office", of document 02, "Further changes requested by customers". It is
-//! written from the texts alone; no other request is in it.
+//! whole-number TMAR", and of two requests of document 02, "Further changes
+//! requested by customers": 2026-01, "Wind from the weather office", and
+//! 2026-02, "Face amounts to the nearest". It is written from the texts alone;
+//! no other request is in it.
 //!
 //! Every call answers `Result<_, u8>`; the error is the refusal's number.
-//! Quotations in comments are sentences of document 01, or of request
-//! 2026-01 where a comment names it or the module says so.
+//! Quotations in comments are sentences of document 01, or of a request where
+//! a comment names it or the module says so.
 
 pub mod calls;
 pub mod checks;
@@ -18,6 +19,7 @@ pub mod import;
 pub mod import_generator;
 pub mod import_numbers;
 pub mod lists;
+pub mod nearest;
 pub mod program;
 pub mod random_file;
 pub mod rng;

@@ -1,4 +1,5 @@
-//! Document 01's "Cases beside the edges" and case F.
+//! Document 01's "Cases beside the edges" and case F. The face cases are those
+//! of request 2026-02.
 
 use reference::closing::{close, level, weighted};
 use reference::flux::{corrected, cut, donor, face_amount};
@@ -43,14 +44,25 @@ fn one_face_on_two_sides_counts_once() {
     assert_eq!(corrected(shape, &[-7, 7], &[7]), [-3, 3]);
 }
 
+/// Document 02, 2026-02: "the marked face cases become: sum 4095, C = 1 gives
+/// 1; sum 2048, C = 1 gives 0; sum 6144, C = 1 gives 2; sum 4097, C = −1 gives
+/// −1."
 #[test]
-fn face_sums_beside_4096() {
-    assert_eq!(face_amount(1, 4095), 0);
+fn marked_face_sums() {
+    assert_eq!(face_amount(1, 4095), 1);
+    assert_eq!(face_amount(1, 2048), 0);
+    assert_eq!(face_amount(1, 6144), 2);
     assert_eq!(face_amount(-1, 4097), -1);
-    assert_eq!(face_amount(1, -4097), -1);
+}
+
+/// Document 01's "Sum −4097, C = 1: G = −1, donor the east element" stays.
+#[test]
+fn a_negative_face_sum_and_its_donor() {
+    let g = face_amount(1, -4097);
+    assert_eq!(g, -1);
     // Faces 0 and 4 + 0 of 2 by 2: the other element is east, then north.
     let shape = Shape { nx: 2, ny: 2, k: 1 };
-    assert_eq!(donor(shape, 0, -1), Some(1));
+    assert_eq!(donor(shape, 0, g), Some(1));
     assert_eq!(donor(shape, 0, 1), Some(0));
     assert_eq!(donor(shape, 4, -1), Some(2));
     assert_eq!(donor(shape, 0, 0), None);
@@ -139,7 +151,15 @@ fn total_at_its_edge() {
 #[test]
 fn even_smoke_in_even_wind_stays() {
     let (nx, ny) = (3, 4);
-    for (east, north) in [(1024, -1024), (-700, 3), (1, 1)] {
+    // Every face sum is 36 · 7, so G is 252 · C / 4096 to the nearest: here
+    // ±63, −43.07 and 0.18, 0.06, ±31.5, ±0.62.
+    for (east, north, east_amount, north_amount) in [
+        (1024, -1024, 63, -63),
+        (-700, 3, -43, 0),
+        (1, 1, 0, 0),
+        (512, -512, 32, -32),
+        (10, -10, 1, -1),
+    ] {
         let faces = [[east; 12], [north; 12]].concat();
         let mut field = [7, 7, 7, 7, 7, 7, 7, 7, 7, 5].repeat(12);
         let before = field.clone();
@@ -147,8 +167,8 @@ fn even_smoke_in_even_wind_stays() {
         let answer = step(&mut field, &faces, &mut report, &mut work, nx, ny, 1, 0);
         assert_eq!(answer, Ok(()));
         assert_eq!(field, before);
-        assert_eq!(report[0], i32::from(east) * 252 / 4096);
-        assert_eq!(report[23], i32::from(north) * 252 / 4096);
+        assert_eq!(report[..12], [east_amount; 12]);
+        assert_eq!(report[12..], [north_amount; 12]);
     }
 }
 

@@ -19,9 +19,9 @@ struct Listing {
 }
 
 /// In the first step of smoke 0 the west element holds 79 and would give 62
-/// to the east, 8 to the west against the wind there, and 10 over its own
-/// north face: all three are cut. In the second it holds 11, its remainder 1
-/// among them, and would give 7, 4 and 1.
+/// to the east (62.5, a half), 8 to the west against the wind there, and 10
+/// over its own north face: all three are cut. In the second it holds 11, its
+/// remainder 1 among them, and would give 7, 5 and 1.
 const ON_ONE_ROW: Listing = Listing {
     shape: Shape { nx: 2, ny: 1, k: 2 },
     calls: &[
@@ -34,14 +34,14 @@ const ON_ONE_ROW: Listing = Listing {
         ("wind east 2 0 -1025", "refused 5"),
         ("wind north 0 0 300", "accepted"),
         ("step 0", "accepted 61 -7 9 0"),
-        ("step 1", "accepted 28 -4 7 0"),
+        ("step 1", "accepted 28 -4 8 0"),
         ("withdrawal 0 1 0 107", "accepted"),
         ("withdrawal 0 1 0 54", "refused 10"),
         (
             "load 1 100000000 0 0 0 0 0 0 0 0 0 0 0 0 0 0 0 0 1",
             "refused 9",
         ),
-        ("step 0", "accepted 6 -3 0 0"),
+        ("step 0", "accepted 5 -4 0 0"),
     ],
     wind: &[1024, 700, 300, 0],
     parts: [
@@ -78,20 +78,20 @@ const BY_IMPORT: Listing = Listing {
         ),
         ("step 0", "accepted 61 -7 9 0"),
         ("import 2 0 0 0 0 0 0 240 255 3", "refused 12"),
-        ("step 1", "accepted 28 -4 7 0"),
+        ("step 1", "accepted 28 -4 8 0"),
         ("withdrawal 0 1 0 107", "accepted"),
         (
             "import 1 0 0 0 0 0 0 208 63 0 0 0 0 0 0 208 63 2 0 0 0 0 0 0 208",
             "refused 11",
         ),
         ("import 0 0 0", "refused 11"),
-        ("step 0", "accepted 6 -3 0 0"),
+        ("step 0", "accepted 5 -4 0 0"),
     ],
     ..ON_ONE_ROW
 };
 
-/// Winds go all four ways. In the first two steps of smoke 0 the amounts
-/// that leave element (1, 0) are cut, and two faces run against their winds.
+/// Winds go all four ways. In the first step of smoke 0 the amounts that leave
+/// element (1, 0) are cut, and two faces run against their winds.
 const ALL_FOUR_WAYS: Listing = Listing {
     shape: Shape { nx: 2, ny: 2, k: 2 },
     calls: &[
@@ -111,33 +111,33 @@ const ALL_FOUR_WAYS: Listing = Listing {
         ("wind north 1 0 -300", "accepted"),
         ("wind north 0 1 1024", "accepted"),
         ("wind north 1 1 250", "accepted"),
-        ("step 0", "accepted -90 20 22 -2 -1 -11 57 11"),
-        ("step 1", "accepted 0 0 0 0 18 0 -6 0"),
-        ("step 0", "accepted -18 3 24 -2 10 -10 107 11"),
+        ("step 0", "accepted -90 20 23 -3 -1 -12 57 12"),
+        ("step 1", "accepted 0 0 0 0 19 0 -6 0"),
+        ("step 0", "accepted -19 3 25 -2 11 -11 107 12"),
         ("withdrawal 0 0 1 207", "accepted"),
-        ("withdrawal 0 0 1 223", "refused 10"),
+        ("withdrawal 0 0 1 221", "refused 10"),
         (
             "load 1 100000000 0 0 0 0 0 0 0 0 0 0 0 0 0 0 0 0 1 0 0 0 0 0 0 0 0 0 0 0 0 0 0 0 0 0 0",
             "refused 9",
         ),
-        ("step 0", "accepted -15 2 11 0 30 -9 50 12"),
+        ("step 0", "accepted -18 2 12 -2 30 -9 50 11"),
     ],
     wind: &[-1024, 700, 300, 300, 500, -300, 1024, 250],
     parts: [
         &[
-            0, 11, 9, 6, 22, 1, 4, 13, 3, 31, //
-            7, 0, 2, 1, 0, 1, 4, 1, 1, 1, //
-            2, 3, 0, 0, 7, 6, 0, 7, 7, 6, //
-            7, 3, 0, 14, 5, 0, 15, 4, 0, 25,
+            0, 11, 10, 6, 22, 1, 4, 13, 3, 33, //
+            7, 0, 2, 0, 0, 0, 3, 0, 0, 14, //
+            2, 3, 0, 0, 7, 6, 0, 7, 7, 1, //
+            7, 4, 1, 14, 5, 0, 16, 4, 0, 22,
         ],
         &[
-            0, 0, 0, 3, 5, 1, 3, 7, 1, 20, //
+            0, 0, 0, 3, 5, 1, 3, 7, 1, 19, //
             0, 0, 0, 0, 0, 0, 0, 0, 0, 0, //
-            0, 2, 1, 0, 0, 0, 0, 0, 0, 15, //
+            0, 2, 1, 0, 0, 0, 0, 0, 0, 16, //
             0, 0, 0, 0, 0, 0, 0, 0, 0, 0,
         ],
     ],
-    held: [&[523, 27, 191, 211], &[148, 0, 24, 0]],
+    held: [&[526, 26, 186, 214], &[147, 0, 25, 0]],
 };
 
 /// Runs the calls that are kept and holds each answer to the list's. Gives

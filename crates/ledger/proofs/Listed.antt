@@ -76,11 +76,11 @@ on-one-row = record {
       ∷ refused 5
       ∷ yes
       ∷ stepped (pos 61 ∷ negsuc 6 ∷ pos 9 ∷ pos 0 ∷ [])
-      ∷ stepped (pos 28 ∷ negsuc 3 ∷ pos 7 ∷ pos 0 ∷ [])
+      ∷ stepped (pos 28 ∷ negsuc 3 ∷ pos 8 ∷ pos 0 ∷ [])
       ∷ yes
       ∷ refused 10
       ∷ refused 9
-      ∷ stepped (pos 6 ∷ negsuc 2 ∷ pos 0 ∷ pos 0 ∷ [])
+      ∷ stepped (pos 5 ∷ negsuc 3 ∷ pos 0 ∷ pos 0 ∷ [])
       ∷ [];
   parts = (0 ∷ 0 ∷ 1 ∷ 0 ∷ 0 ∷ 0 ∷ 0 ∷ 0 ∷ 0 ∷ 1 ∷ 6 ∷ 3 ∷ 0 ∷ 1 ∷ 1 ∷ 0 ∷ 4 ∷ 2 ∷ 1 ∷ 11 ∷ []) ∷ (1 ∷ 4 ∷ 4 ∷ 1 ∷ 4 ∷ 4 ∷ 1 ∷ 4 ∷ 4 ∷ 14 ∷ 3 ∷ 0 ∷ 0 ∷ 3 ∷ 0 ∷ 0 ∷ 3 ∷ 0 ∷ 0 ∷ 14 ∷ []) ∷ [];
   winds = pos 1024 ∷ pos 700 ∷ pos 300 ∷ pos 0 ∷ [];
@@ -116,18 +116,18 @@ by-import = record {
       ∷ refused 5
       ∷ stepped (pos 61 ∷ negsuc 6 ∷ pos 9 ∷ pos 0 ∷ [])
       ∷ refused 12
-      ∷ stepped (pos 28 ∷ negsuc 3 ∷ pos 7 ∷ pos 0 ∷ [])
+      ∷ stepped (pos 28 ∷ negsuc 3 ∷ pos 8 ∷ pos 0 ∷ [])
       ∷ yes
       ∷ refused 11
       ∷ refused 11
-      ∷ stepped (pos 6 ∷ negsuc 2 ∷ pos 0 ∷ pos 0 ∷ [])
+      ∷ stepped (pos 5 ∷ negsuc 3 ∷ pos 0 ∷ pos 0 ∷ [])
       ∷ [];
   parts = on-one-row .parts;
   winds = on-one-row .winds;
   ledgers = on-one-row .ledgers;
 }
 
--- winds that go all four ways: two steps of smoke 0 cut what leaves an element, and two faces run against their winds
+-- winds that go all four ways: the first step of smoke 0 cuts what leaves an element, and two faces run against their winds
 abbrev pub all-four-ways : Listing
 all-four-ways = record {
   shape = record { nx = 2; ny = 2; tracers = 2 };
@@ -149,7 +149,7 @@ all-four-ways = record {
       ∷ on 1 (step tt)
       ∷ on 0 (step tt)
       ∷ on 0 (withdrawal 0 1 207)
-      ∷ on 0 (withdrawal 0 1 223)
+      ∷ on 0 (withdrawal 0 1 221)
       ∷ on 1 (load (100000000 ∷ 0 ∷ 0 ∷ 0 ∷ 0 ∷ 0 ∷ 0 ∷ 0 ∷ 0 ∷ 0 ∷ 0 ∷ 0 ∷ 0 ∷ 0 ∷ 0 ∷ 0 ∷ 0 ∷ 1 ∷ 0 ∷ 0 ∷ 0 ∷ 0 ∷ 0 ∷ 0 ∷ 0 ∷ 0 ∷ 0 ∷ 0 ∷ 0 ∷ 0 ∷ 0 ∷ 0 ∷ 0 ∷ 0 ∷ 0 ∷ 0 ∷ []))
       ∷ on 0 (step tt)
       ∷ [];
@@ -167,17 +167,17 @@ all-four-ways = record {
       ∷ yes
       ∷ yes
       ∷ yes
-      ∷ stepped (negsuc 89 ∷ pos 20 ∷ pos 22 ∷ negsuc 1 ∷ negsuc 0 ∷ negsuc 10 ∷ pos 57 ∷ pos 11 ∷ [])
-      ∷ stepped (pos 0 ∷ pos 0 ∷ pos 0 ∷ pos 0 ∷ pos 18 ∷ pos 0 ∷ negsuc 5 ∷ pos 0 ∷ [])
-      ∷ stepped (negsuc 17 ∷ pos 3 ∷ pos 24 ∷ negsuc 1 ∷ pos 10 ∷ negsuc 9 ∷ pos 107 ∷ pos 11 ∷ [])
+      ∷ stepped (negsuc 89 ∷ pos 20 ∷ pos 23 ∷ negsuc 2 ∷ negsuc 0 ∷ negsuc 11 ∷ pos 57 ∷ pos 12 ∷ [])
+      ∷ stepped (pos 0 ∷ pos 0 ∷ pos 0 ∷ pos 0 ∷ pos 19 ∷ pos 0 ∷ negsuc 5 ∷ pos 0 ∷ [])
+      ∷ stepped (negsuc 18 ∷ pos 3 ∷ pos 25 ∷ negsuc 1 ∷ pos 11 ∷ negsuc 10 ∷ pos 107 ∷ pos 12 ∷ [])
       ∷ yes
       ∷ refused 10
       ∷ refused 9
-      ∷ stepped (negsuc 14 ∷ pos 2 ∷ pos 11 ∷ pos 0 ∷ pos 30 ∷ negsuc 8 ∷ pos 50 ∷ pos 12 ∷ [])
+      ∷ stepped (negsuc 17 ∷ pos 2 ∷ pos 12 ∷ negsuc 1 ∷ pos 30 ∷ negsuc 8 ∷ pos 50 ∷ pos 11 ∷ [])
       ∷ [];
-  parts = (0 ∷ 11 ∷ 9 ∷ 6 ∷ 22 ∷ 1 ∷ 4 ∷ 13 ∷ 3 ∷ 31 ∷ 7 ∷ 0 ∷ 2 ∷ 1 ∷ 0 ∷ 1 ∷ 4 ∷ 1 ∷ 1 ∷ 1 ∷ 2 ∷ 3 ∷ 0 ∷ 0 ∷ 7 ∷ 6 ∷ 0 ∷ 7 ∷ 7 ∷ 6 ∷ 7 ∷ 3 ∷ 0 ∷ 14 ∷ 5 ∷ 0 ∷ 15 ∷ 4 ∷ 0 ∷ 25 ∷ []) ∷ (0 ∷ 0 ∷ 0 ∷ 3 ∷ 5 ∷ 1 ∷ 3 ∷ 7 ∷ 1 ∷ 20 ∷ 0 ∷ 0 ∷ 0 ∷ 0 ∷ 0 ∷ 0 ∷ 0 ∷ 0 ∷ 0 ∷ 0 ∷ 0 ∷ 2 ∷ 1 ∷ 0 ∷ 0 ∷ 0 ∷ 0 ∷ 0 ∷ 0 ∷ 15 ∷ 0 ∷ 0 ∷ 0 ∷ 0 ∷ 0 ∷ 0 ∷ 0 ∷ 0 ∷ 0 ∷ 0 ∷ []) ∷ [];
+  parts = (0 ∷ 11 ∷ 10 ∷ 6 ∷ 22 ∷ 1 ∷ 4 ∷ 13 ∷ 3 ∷ 33 ∷ 7 ∷ 0 ∷ 2 ∷ 0 ∷ 0 ∷ 0 ∷ 3 ∷ 0 ∷ 0 ∷ 14 ∷ 2 ∷ 3 ∷ 0 ∷ 0 ∷ 7 ∷ 6 ∷ 0 ∷ 7 ∷ 7 ∷ 1 ∷ 7 ∷ 4 ∷ 1 ∷ 14 ∷ 5 ∷ 0 ∷ 16 ∷ 4 ∷ 0 ∷ 22 ∷ []) ∷ (0 ∷ 0 ∷ 0 ∷ 3 ∷ 5 ∷ 1 ∷ 3 ∷ 7 ∷ 1 ∷ 19 ∷ 0 ∷ 0 ∷ 0 ∷ 0 ∷ 0 ∷ 0 ∷ 0 ∷ 0 ∷ 0 ∷ 0 ∷ 0 ∷ 2 ∷ 1 ∷ 0 ∷ 0 ∷ 0 ∷ 0 ∷ 0 ∷ 0 ∷ 16 ∷ 0 ∷ 0 ∷ 0 ∷ 0 ∷ 0 ∷ 0 ∷ 0 ∷ 0 ∷ 0 ∷ 0 ∷ []) ∷ [];
   winds = negsuc 1023 ∷ pos 700 ∷ pos 300 ∷ pos 300 ∷ pos 500 ∷ negsuc 299 ∷ pos 1024 ∷ pos 250 ∷ [];
-  ledgers = (pos 523 ∷ pos 27 ∷ pos 191 ∷ pos 211 ∷ []) ∷ (pos 148 ∷ pos 0 ∷ pos 24 ∷ pos 0 ∷ []) ∷ [];
+  ledgers = (pos 526 ∷ pos 26 ∷ pos 186 ∷ pos 214 ∷ []) ∷ (pos 147 ∷ pos 0 ∷ pos 25 ∷ pos 0 ∷ []) ∷ [];
 }
 
 -- a list evaluated from buffers of the needed lengths, which hold sevens before they are made fresh

@@ -13,6 +13,7 @@ pub mod CallLaws
 pub mod FieldLaws
 pub mod GivesLaws
 pub mod StageBounds
+pub mod FluxRounding
 pub mod QuadraticLaws
 pub mod MarkedCases
 pub mod ExactValue

@@ -1,4 +1,4 @@
--- Document 01, "Cases beside the edges": the cases marked *, one theorem over one table.
+-- Document 01, "Cases beside the edges": the cases marked *, one theorem over one table; those of faces are document 02's, 2026-02.
 use mathlib.Core.Path.{_≡_, refl}
 use mathlib.Core.Bool.{cond}
 use mathlib.Core.List.{List, [], _∷_, _++_, map}
@@ -6,6 +6,7 @@ use Prim.Native.Nat.{ℕ}
 use lib.Dec.{eqb}
 use lib.IntN.{ℤ, pos, negsuc}
 use lib.ListN.{getD, replicate}
+use Rattle.whole.specs.Nearest.{nearestNatural, nearest}
 use Rattle.whole.specs.Parts.{positive}
 use Rattle.whole.specs.Sum.{sum, sumℤ}
 use Rattle.whole.specs.Table.{table}
@@ -71,9 +72,12 @@ cases =
     ∷ row (three-outflows 20) (pos 6 ∷ pos 6 ∷ negsuc 5 ∷ [])
     ∷ row (three-outflows 21) (pos 7 ∷ pos 7 ∷ negsuc 6 ∷ [])
     ∷ row (three-outflows 0) (pos 0 ∷ pos 0 ∷ pos 0 ∷ [])
-    -- "Face sum 4095, C = 1: G = 0. Sum 4097, C = −1: G = −1. Sum −4097, C = 1: G = −1, donor the east element."
-    ∷ row (amount (pos 1) (pos 4095)) (pos 0 ∷ [])
+    -- document 02, 2026-02: "sum 4095, C = 1 gives 1; sum 2048, C = 1 gives 0; sum 6144, C = 1 gives 2; sum 4097, C = −1 gives −1"
+    ∷ row (amount (pos 1) (pos 4095)) (pos 1 ∷ [])
+    ∷ row (amount (pos 1) (pos 2048)) (pos 0 ∷ [])
+    ∷ row (amount (pos 1) (pos 6144)) (pos 2 ∷ [])
     ∷ row (amount (negsuc 0) (pos 4097)) (negsuc 0 ∷ [])
+    -- "Sum −4097, C = 1: G = −1, donor the east element."
     ∷ row (amount (pos 1) (negsuc 4096)) (negsuc 0 ∷ [])
     ∷ row (donorFor (pos 1) (negsuc 4096)) (pos 1 ∷ [])
     -- "Closing, ψ centre 10, one corner −60, others 0, T = 100: P = 160, centre 6, ρ = 4."
@@ -87,6 +91,6 @@ cases =
     ∷ []
 
 pub marked-cases : map (λ c. answered (c .question)) cases ≡ map (λ c. c .expected) cases
-unfolding cases row nine alike answered cut-sevens sevens limitedFlux donor outflow cut withSign rescaled behind ahead east west north fluxOf quadratic weightSum weighted
+unfolding cases row nine alike answered cut-sevens sevens limitedFlux donor outflow cut withSign rescaled behind ahead east west north fluxOf nearest nearestNatural quadratic weightSum weighted
     closed closedUnlevelled adjusted meanShift truncated rescaledValue closingRemainder positive sum sumℤ table
 marked-cases = refl

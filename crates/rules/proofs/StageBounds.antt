@@ -13,7 +13,8 @@ use lib.Signed.{nonNeg}
 use Rattle.whole.specs.Bound.{Within}
 use Rattle.whole.specs.Sum.{sum, all}
 use Rattle.whole.proofs.Cases.{cond-ind}
-use Rattle.whole.proofs.BoundLaws.{within-le, within-add, within-sub, within-mul, within-pos, within-sum, within-floor, within-trunc-by}
+use Rattle.whole.proofs.BoundLaws.{within-le, within-add, within-sub, within-mul, within-pos, within-sum, within-floor}
+use Rattle.whole.proofs.NearestLaws.{within-nearest}
 use Rattle.whole.proofs.SumLaws.{sum-cong, sum-mul-right, all-at}
 use Rattle.whole.proofs.TableLaws.{table-all}
 use Rattle.rules.specs.declared.Shape.{Shape}
@@ -165,7 +166,7 @@ module _ (κ : Kind) (bounded-kind : BoundedKind κ) (g : Shape) (hx : 0 < g .nx
 
     pub flux-within : (f : ℕ) → f < faces g → Within (116 * B) (flux κ g c s f)
     unfolding flux fluxOf
-    flux-within f h = within-trunc-by _ (κ .faceDivisor) (116 * B) (within-le (within-mul (wind-range f h) (faceSum-within f)) (omega (arith, mul-le-mul-left (116 * B) (bounded-kind .divisor))))
+    flux-within f h = within-nearest _ (κ .faceDivisor) (116 * B) (omega (arith, bounded-kind .divisor)) (within-le (within-mul (wind-range f h) (faceSum-within f)) (omega (arith, mul-le-mul-left (116 * B) (bounded-kind .divisor))))
 
 -- ---- the quadratic element is such a kind: its factors are tested by computation
 pub quadratic-bounded : BoundedKind quadratic

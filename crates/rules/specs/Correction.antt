@@ -25,7 +25,8 @@ unfoldable pub withSign : ℤ → ℕ → ℤ
 withSign (pos a) n = pos n
 withSign (negsuc a) n = negℤ (pos n)
 
--- "G* = G if Out ≤ M, else |G| becomes floor(|G| · M / Out), sign kept": the cut of a flux by its donor's outflow and mass
+-- "G* = G if Out ≤ M, else |G| becomes floor(|G| · M / Out), sign kept": the cut of a flux by its donor's outflow and mass; document 02, 2026-02:
+-- it "still uses floor"
 unfoldable pub cut : ℤ → ℕ → ℕ → ℤ
 unfolding withSign rescaled
 cut z out m = withSign z (rescaled out m (natAbs z))

@@ -7,7 +7,8 @@ use lib.Dec.{eqb}
 use lib.IntN.{ℤ, pos, _+ℤ_, _-ℤ_, _*ℤ_}
 use lib.ListN.{getD}
 use lib.Signed.{nonNeg}
-use Rattle.whole.specs.Bound.{floorDiv, truncDiv}
+use Rattle.whole.specs.Bound.{floorDiv}
+use Rattle.whole.specs.Nearest.{nearest}
 use Rattle.whole.specs.Sum.{sumℤ}
 use Rattle.whole.specs.Table.{table}
 use Rattle.rules.specs.declared.Shape.{Shape}
@@ -85,9 +86,11 @@ stage2 φ0 t0 t1 e k = φ0 e k +ℤ floorDiv (t0 e k +ℤ t1 e k) 4
 unfoldable pub tentative : (ℕ → ℕ → ℤ) → (ℕ → ℕ → ℤ) → (ℕ → ℕ → ℤ) → (ℕ → ℕ → ℤ) → ℕ → ℕ → ℤ
 tentative φ0 t0 t1 t2 e k = φ0 e k +ℤ floorDiv (t0 e k +ℤ t1 e k +ℤ pos 4 *ℤ t2 e k) 6
 
--- "G = C · Σ ω·(p0 + 4·p2 + p1) / 4096, truncated toward zero", from the face's sum
+-- "G = C · Σ ω·(p0 + 4·p2 + p1) / 4096", from the face's sum; document 02, 2026-02: "to the nearest whole number, an exact half to the
+-- even one"
 unfoldable pub fluxOf : Kind → ℤ → ℤ → ℤ
-fluxOf κ c s = truncDiv (c *ℤ s) (κ .faceDivisor)
+unfolding nearest
+fluxOf κ c s = nearest (c *ℤ s) (κ .faceDivisor)
 
 -- "The sum is over the face's three nodes, ω is 1, 4, 1 along the face, p0..p2 are the stages' upwind values."
 unfoldable pub faceSum : Kind → (ℕ → ℤ) → (ℕ → ℤ) → (ℕ → ℤ) → ℤ

@@ -1,21 +1,23 @@
--- A face's sum over its nodes, term by term: it is the rules', it is small, and it reads the stages alone.
+-- A face's sum over its nodes, term by term: it is the rules', it is small, and it reads the stages alone; and the flux that the code makes of it.
 use mathlib.Core.Path.{_≡_, refl, sym, ap, subst}
 use mathlib.Core.List.{List}
-use Prim.Native.Nat.{ℕ, _+_, _*_, _≤_, _<_}
+use Prim.Native.Nat.{ℕ, _+_, _*_, _%_, _≤_, _<_}
 use native.Mathlib.Nat.{mul-le-mul-left}
 use native.Mathlib.Omega.{arith}
-use lib.IntN.{ℤ, pos, _+ℤ_, _*ℤ_}
+use lib.IntN.{ℤ, pos, natAbs, _+ℤ_, _*ℤ_}
 use lib.Signed.{nonNeg}
 use Rattle.whole.specs.Table.{at}
-use Rattle.whole.specs.Bound.{Within, truncDiv}
+use Rattle.whole.specs.Bound.{Within, floorDiv}
 use Rattle.whole.specs.Sum.{sum, sumℤ}
 use Rattle.whole.proofs.Cases.{cond-ind}
 use Rattle.whole.proofs.BoundLaws.{within-le, within-add, within-mul, within-pos, within-sum}
+use Rattle.whole.proofs.NearestFloor.{nearest-floor}
+use Rattle.whole.proofs.NearestLaws.{within-nearest}
 use Rattle.whole.proofs.SumLaws.{sum-mono, sumℤ-cong}
 use Rattle.rules.specs.declared.Shape.{Shape}
 use Rattle.rules.specs.Field.{quadratic, elements}
 use Rattle.rules.specs.Stages.{faceSum, fluxOf}
-use Rattle.rules.specs.Sizes.{stageSize, faceSumSize}
+use Rattle.rules.specs.Sizes.{stageSize, faceSumSize, fluxSize}
 use Rattle.rules.proofs.QuadraticLaws.{line-weight-le}
 use Rattle.step_layout.specs.Sections.{stageLength, stageStart}
 use Rattle.step_upwind.specs.Upwind.{upwindStart}
@@ -64,14 +66,19 @@ module _ (g : Shape) (w : List ℤ) (start stride : ℕ) where
             within-le (within-mul ω v) (omega arith)
 
 -- ---- the flux of a face
+-- the code's way: `nearest-floor` at 4096
+pub flux-of-is : (c s : ℤ) → floorDiv (pos 2 *ℤ (c *ℤ s) +ℤ pos 4095 +ℤ pos (natAbs (floorDiv (c *ℤ s) 4096) % 2)) 8192 ≡ fluxOf quadratic c s
+unfolding fluxOf quadratic
+flux-of-is c s = nearest-floor (c *ℤ s) 4096 (omega arith)
+
+pub flux-of-within : (c s : ℤ) → Within 1024 c → Within faceSumSize s → Within fluxSize (fluxOf quadratic c s)
+unfolding fluxOf quadratic
+flux-of-within c s h k = within-nearest (c *ℤ s) 4096 fluxSize (omega arith) (within-le (within-mul h k) (omega arith))
+
 module _ (g : Shape) (c : ℤ) (behind ahead last stride : ℕ) where
   pub start-room : last + 2 * stride < 9 → behind < elements g → ahead < elements g → upwindStart c behind ahead last + 2 * stride < stageLength g
   unfolding upwindStart
   start-room h b a = cond-ind (nonNeg c) _ _ (λ s. s + 2 * stride < stageLength g) (λ _. omega arith) (λ _. omega arith)
-
-  pub flux-is : (w : List ℤ) → truncDiv (c *ℤ stagesSum g w (upwindStart c behind ahead last) stride) 4096 ≡ faceFlux g w c behind ahead last stride
-  unfolding faceFlux fluxOf quadratic
-  flux-is w = refl
 
   -- fluxes read the stages alone
   pub flux-kept : (w w′ : List ℤ) → last + 2 * stride < 9 → behind < elements g → ahead < elements g → ((m i : ℕ) → m < 3 → i < stageLength g → at w (stageStart g m + i) ≡ at w′ (stageStart g m + i))

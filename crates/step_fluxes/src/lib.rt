@@ -3,7 +3,8 @@
 ghost use Prim.Native.Nat.{_+_, _*_, _<_};
 ghost use Rattle.whole.specs.Bound.{Within, Are};
 ghost use Rattle.whole.specs.Written.{Written};
-ghost use Rattle.rules.specs.Field.{elements};
+ghost use Rattle.rules.specs.Field.{quadratic, elements};
+ghost use Rattle.rules.specs.Stages.{fluxOf};
 ghost use Rattle.rules.specs.Calls.{windAt};
 ghost use Rattle.rules.specs.Sizes.{faceSumSize, fluxSize};
 ghost use Rattle.step_layout.specs.Sections.{stageLength, fluxesStart, northFluxesStart};
@@ -36,6 +37,18 @@ fn face_sum(work: &[i64], shape: Shape, start: usize, stride: usize) -> i64
     sum
 }
 
+// The flux of a face with wind c and that sum: their product by 4096, to the nearest whole number, the even one at a half.
+// With 4095 / 8192 added, a half is rounded down to the number below it; where that number is odd, 4096 / 8192 take the half to the next one.
+fn flux_of(c: i64, sum: i64) -> i64
+    requires { ⌜ Within 1024 c ⌝ }
+    requires { ⌜ Within faceSumSize sum ⌝ }
+    ensures { λ r. ⌜ Are fluxSize r (fluxOf quadratic c sum) ⌝ }
+{
+    let product = c * sum;
+    let odd = (product >> 12) & 1;
+    (2 * product + 4095 + odd) >> 13
+}
+
 // The flux of a face with wind c between the elements behind and ahead. The line of nodes at the face begins at node `last` of the
 // element behind it and goes on by `stride`.
 fn face_flux(
@@ -56,7 +69,7 @@ fn face_flux(
 {
     let start = step_upwind::upwind_start(c, behind, ahead, last);
     let sum = face_sum(work, shape, start, stride);
-    c * sum / 4096
+    flux_of(c, sum)
 }
 
 // The fluxes of all faces.

@@ -1,15 +1,17 @@
--- How `Within` goes through sums, products, the two divisions, and the machine's widths.
-use mathlib.Core.Path.{_≡_, refl}
+-- How `Within` goes through sums, products, floors and remainders, and the machine's widths.
+use mathlib.Core.Path.{_≡_, refl, ap, _∙_}
 use mathlib.Core.Bool.{Bool, true, false, not}
 use Prim.Native.Nat.{ℕ, zero, suc, _+_, _-_, _*_, _/_, _%_, _^_, _≤_, _<_, zero-le}
-use native.Mathlib.Nat.{le-trans, le-refl, le-suc, le-of-lt, le-of-eq, add-le-add, mul-le-mul, mul-comm, mod-le, div-zero, div-le-self, div-mul-le-self, le-div-iff-mul-le, zero-lt-suc, div-le-of-le-mul, div-lt-iff-lt-mul}
+use native.Mathlib.Nat.{le-trans, le-refl, le-suc, le-of-lt, le-of-eq, add-le-add, mul-le-mul, mul-comm, mod-le, mod-lt, div-zero, div-le-self, div-mul-le-self, le-div-iff-mul-le, zero-lt-suc, div-le-of-le-mul, div-lt-iff-lt-mul}
 use native.Mathlib.Omega.{arith}
+use lib.Bits.{bitAnd, and-mask}
 use lib.Dec.{T, lit<, ltb, ltb→lt, nltb→le}
 use lib.IntN.{ℤ, pos, negsuc, negℤ, natAbs, _+ℤ_, _-ℤ_, _*ℤ_}
 use lib.Signed.{mag, quotZ, remZ}
 use mir.Syntax.{Width, w8, w16, w32, w64, w128}
 use mir.Val.{bits, hbits, toZ, ofZ, sel}
-use Rattle.whole.specs.Bound.{Within, floorDiv, truncDiv}
+use mir.Facts.{toZ-pos}
+use Rattle.whole.specs.Bound.{Within, floorDiv}
 use Rattle.whole.specs.Sum.{sum, sumℤ}
 use Rattle.whole.proofs.WholeLaws.{abs-neg, abs-add, abs-mul}
 
@@ -48,17 +50,6 @@ within-floor (negsuc a) d b h k = record { within = div-lt-iff-lt-mul h .1 (k .w
 div-mono : (a b k : ℕ) → a ≤ b → a / k ≤ b / k
 div-mono a b zero h = rw (div-zero a) zero-le
 div-mono a b (suc k) h = le-div-iff-mul-le (zero-lt-suc k) .1 (le-trans (div-mul-le-self a (suc k)) h)
-
-abs-trunc : (z : ℤ) (k : ℕ) → natAbs (truncDiv z k) ≡ natAbs z / k
-abs-trunc (pos a) k = refl
-abs-trunc (negsuc a) k = abs-neg (pos (suc a / k))
-
--- truncated by d, what is within b d is within b
-pub within-trunc-by : (z : ℤ) (d b : ℕ) → Within (b * d) z → Within b (truncDiv z d)
-within-trunc-by z d b p = record { within = rw (abs-trunc z d) (div-le-of-le-mul d (le-trans (p .within) (le-of-eq (mul-comm b d)))) }
-
-pub within-trunc : (z : ℤ) (k n : ℕ) → Within n z → Within (n / k) (truncDiv z k)
-within-trunc z k n p = record { within = rw (abs-trunc z k) (div-mono (natAbs z) n k (p .within)) }
 
 abs-floor : (z : ℤ) (k : ℕ) → natAbs (floorDiv z k) ≤ natAbs z / k + 1
 abs-floor (pos a) k = omega arith
@@ -117,7 +108,7 @@ halves w32 = refl
 halves w64 = refl
 halves w128 = refl
 
-half-above : (w : Width) → 0 < 2 ^ hbits w
+half-above : (w : Width) → 2 < 2 ^ hbits w
 half-above w8 = lit< tt
 half-above w16 = lit< tt
 half-above w32 = lit< tt
@@ -125,8 +116,19 @@ half-above w64 = lit< tt
 half-above w128 = lit< tt
 
 pub abs-back : (w : Width) (z : ℤ) → natAbs (toZ w (ofZ w z)) ≤ natAbs z
-abs-back w (pos n) = back-pos n (2 ^ hbits w) (2 ^ bits w) (half-above w) (halves w)
-abs-back w (negsuc n) = back-neg n (2 ^ hbits w) (2 ^ bits w) (half-above w) (halves w)
+abs-back w (pos n) = back-pos n (2 ^ hbits w) (2 ^ bits w) (omega (arith, half-above w)) (halves w)
+abs-back w (negsuc n) = back-neg n (2 ^ hbits w) (2 ^ bits w) (omega (arith, half-above w)) (halves w)
 
 pub within-back : {n : ℕ} (w : Width) (z : ℤ) → Within n z → Within n (toZ w (ofZ w z))
 within-back w z p = record { within = le-trans (abs-back w z) (p .within) }
+
+-- the lowest of a number's bits is its parity
+odd-bits : (w : Width) (z : ℤ) → natAbs z < 2 ^ bits w → ofZ w z % 2 ≡ natAbs z % 2
+odd-bits w (pos n) h = refl
+odd-bits w (negsuc n) h = omega (arith, halves w)
+
+pub low-bit : (w : Width) (z : ℤ) → toZ w (bitAnd (ofZ w z) 1) ≡ pos (ofZ w z % 2)
+low-bit w z = ap (toZ w) (and-mask (ofZ w z) 1) ∙ toZ-pos w (omega (arith, half-above w, mod-lt (ofZ w z) {m = 2} (lit< tt)))
+
+pub parity-bit : (w : Width) (z : ℤ) → natAbs z < 2 ^ bits w → toZ w (bitAnd (ofZ w z) 1) ≡ pos (natAbs z % 2)
+parity-bit w z h = low-bit w z ∙ ap pos (odd-bits w z h)

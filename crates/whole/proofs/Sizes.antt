@@ -5,18 +5,19 @@
 use mathlib.Core.Path.{_≡_, refl, sym, ap, subst, _∙_}
 use mathlib.Core.Bool.{Bool, true, _&&_}
 use mathlib.Core.List.{List, [], _∷_}
-use Prim.Native.Nat.{ℕ, zero, suc, _+_, _*_, _/_, _^_, _≤_, _<_}
+use Prim.Native.Nat.{ℕ, zero, suc, _+_, _*_, _/_, _%_, _^_, _≤_, _<_}
 use native.Mathlib.Nat.{le-trans, le-of-lt, lt-of-le-of-lt, le-refl}
 use native.Mathlib.Omega.{arith}
+use lib.Bits.{bitAnd}
 use lib.Dec.{T, ltb, leb, leb→le, ltb→lt}
 use lib.IntN.{ℤ, pos, negsuc, negℤ, natAbs, _+ℤ_, _*ℤ_}
 use lib.ListN.{getD, set}
 use lib.Signed.{mag, quotZ, remZ, ltZ, leZ}
 use mir.Syntax.{Width, w16, w32, w64}
-use mir.Val.{SFits, Fits, hbits, toZ, ofZ}
+use mir.Val.{SFits, Fits, bits, hbits, toZ, ofZ}
 use mir.Facts.{toZ-ofZ, and-yes, toZ-pos}
-use Rattle.whole.specs.Bound.{Within, Are, AllWithin, floorDiv, truncDiv}
-use Rattle.whole.proofs.BoundLaws.{within-le, within-add, within-mul, within-neg, within-pos, within-neg-suc, within-trunc, within-floor-any, within-floor-le, within-rem, within-quot, within-mag, within-back, mag-le}
+use Rattle.whole.specs.Bound.{Within, Are, AllWithin, floorDiv}
+use Rattle.whole.proofs.BoundLaws.{within-le, within-add, within-mul, within-neg, within-pos, within-neg-suc, within-floor-any, within-floor-le, within-rem, within-quot, within-mag, within-back, mag-le, low-bit, parity-bit}
 
 pub record Sized (z : ℤ) : Type 0 where
   pub size : ℕ
@@ -75,9 +76,6 @@ s-mul a b p q = record { size = p .size * q .size; small = within-mul (p .small)
 abbrev pub s-neg : (a : ℤ) → Sized a → Sized (negℤ a)
 s-neg a p = record { size = p .size; small = within-neg (p .small) }
 
-abbrev pub s-trunc : (a : ℤ) (k : ℕ) → Sized a → Sized (truncDiv a k)
-s-trunc a k p = record { size = p .size / k; small = within-trunc a k (p .size) (p .small) }
-
 abbrev pub s-floor : (a : ℤ) (k : ℕ) → Sized a → Sized (floorDiv a k)
 s-floor a k p = record { size = p .size / k + 1; small = within-floor-any a k (p .size) (p .small) }
 
@@ -89,6 +87,10 @@ s-quot a b p = record { size = p .size; small = within-quot a b (p .small) }
 
 abbrev pub s-rem : (a b : ℤ) → Sized a → Sized (remZ a b)
 s-rem a b p = record { size = p .size; small = within-rem a b (p .small) }
+
+-- the lowest bit
+abbrev pub s-parity : (w : Width) (z : ℤ) → Sized (toZ w (bitAnd (ofZ w z) 1))
+s-parity w z = record { size = 1; small = subst (Within 1) (sym (low-bit w z)) (record { within = omega arith }) }
 
 -- what a call gave, or a list whose numbers are bounded holds
 abbrev pub s-call : (r z : ℤ) (n : ℕ) → Are n r z → Sized r
@@ -155,9 +157,6 @@ e-mul r s a b p q = record { size = p .size * q .size; small = within-mul (p .sm
 abbrev pub e-neg : (r z : ℤ) → Exact r z → Exact (negℤ r) (negℤ z)
 e-neg r z p = record { size = p .size; small = within-neg (p .small); good = p .good; same = λ t. ap negℤ (p .same t) }
 
-abbrev pub e-trunc : (r a : ℤ) (k : ℕ) → Exact r a → Exact (truncDiv r k) (truncDiv a k)
-e-trunc r a k p = record { size = p .size / k; small = within-trunc r k (p .size) (p .small); good = p .good; same = λ t. ap (λ (x : ℤ). truncDiv x k) (p .same t) }
-
 abbrev pub e-floor : (r a : ℤ) (k : ℕ) → Exact r a → Exact (floorDiv r k) (floorDiv a k)
 e-floor r a k p = record { size = p .size / k + 1; small = within-floor-any r k (p .size) (p .small); good = p .good; same = λ t. ap (λ (x : ℤ). floorDiv x k) (p .same t) }
 
@@ -170,6 +169,15 @@ e-quot r s a b p q = record { size = p .size; small = within-quot r s (p .small)
 
 abbrev pub e-rem : (r s a b : ℤ) → Exact r a → Exact s b → Exact (remZ r s) (remZ a b)
 e-rem r s a b p q = record { size = p .size; small = within-rem r s (p .small); good = p .good && q .good; same = λ t. both-same remZ p q t }
+
+abbrev pub e-parity : (w : Width) (r z : ℤ) → Exact r z → Exact (toZ w (bitAnd (ofZ w r) 1)) (pos (natAbs z % 2))
+e-parity w r z p = record {
+  size = 1;
+  small = s-parity w r .small;
+  good = p .good && ltb (p .size) (2 ^ bits w);
+  same = λ t. let y = and-yes (p .good) (ltb (p .size) (2 ^ bits w)) t in
+      parity-bit w r (lt-of-le-of-lt (p .small .within) (ltb→lt (p .size) (2 ^ bits w) (y .1))) ∙ ap (λ (x : ℤ). pos (natAbs x % 2)) (p .same (y .0));
+}
 
 -- what a call gave, or a list holds
 abbrev pub e-call : (r z : ℤ) (n : ℕ) → Are n r z → Exact r z
@@ -242,9 +250,9 @@ abbrev pub t-le : (r s a b : ℤ) → Exact r a → Exact s b → ExactTest (leZ
 t-le r s a b p q = record { goodt = p .good && q .good; samet = λ t. both-same leZ p q t }
 
 -- ---- the sets: take the smallest that serves
-pub ruleset sizes = (s-leaf, s-pos, s-neg-suc, s-table, s-at, s-call, s-add, s-mul, s-neg, s-trunc, s-floor, s-back)
+pub ruleset sizes = (s-leaf, s-pos, s-neg-suc, s-table, s-at, s-call, s-add, s-mul, s-neg, s-floor, s-back)
 
-pub ruleset exacts = (e-leaf, e-pos, e-neg-suc, e-table, e-at, e-call, e-back, e-add, e-mul, e-neg, e-trunc, e-floor)
+pub ruleset exacts = (e-leaf, e-pos, e-neg-suc, e-table, e-at, e-call, e-back, e-add, e-mul, e-neg, e-floor)
 
 pub ruleset exacts-shift = (e-leaf, e-pos, e-neg-suc, e-table, e-at, e-call, e-back, e-add, e-mul, e-neg, e-shift)
 
@@ -253,6 +261,10 @@ pub ruleset sizes-wide = (sizes, s-i16, s-i32, s-u32, s-quot, s-rem)
 pub ruleset exacts-wide = (exacts, e-quot, e-rem, e-u32, t-lt, t-le)
 
 pub ruleset exact-lists = (exacts, e-both, s-leaf, s-at, s-call, l-set, l-refl, l-eq)
+
+pub ruleset sizes-parity = (sizes, s-parity)
+
+pub ruleset exacts-parity = (exacts, e-parity)
 
 pub ruleset sizes-eq = (sizes, s-eq)
 

@@ -1,18 +1,14 @@
--- Bounds on whole numbers, as contracts state them, and the two divisions of document 01.
+-- Bounds on whole numbers, as contracts state them, and the division that rounds down.
 use mathlib.Core.Path.{_≡_}
 use mathlib.Core.List.{List}
 use Prim.Native.Nat.{ℕ, _≤_}
 use lib.IntN.{ℤ, pos, natAbs}
 use lib.ListN.{getD}
-use lib.Signed.{quotZ, shrZ}
+use lib.Signed.{shrZ}
 
 -- z / d for d above 0, rounded toward minus infinity ("Floor is toward minus infinity"): n / d of n, and -1 - n / d of -1 - n
 abbrev pub floorDiv : ℤ → ℕ → ℤ
 floorDiv z d = shrZ z d
-
--- z / d for d above 0, truncated toward zero
-abbrev pub truncDiv : ℤ → ℕ → ℤ
-truncDiv z d = quotZ z (pos d)
 
 -- the size of z is at most n
 pub record Within (n : ℕ) (z : ℤ) : Type 0 where

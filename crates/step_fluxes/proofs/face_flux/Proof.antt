@@ -1,12 +1,14 @@
-use mathlib.Core.Path.{_≡_, ap, _∙_}
+use mathlib.Core.Path.{_≡_, ap, ap₂, _∙_}
 use native.Mathlib.Omega.{arith}
-use lib.Dec.{lit<}
+use mir.Syntax.{w64}
 use mir.Facts.{toZ-ofZ}
-use Rattle.whole.proofs.Sizes.{sizes, exacts, fits, bounded, are-eq}
+use Rattle.whole.proofs.Sizes.{sizes, exacts, within, bounded, read-back}
+use Rattle.rules.specs.Field.{quadratic}
+use Rattle.rules.specs.Stages.{fluxOf}
 use Rattle.rules.proofs.ShapeLaws.{elements-le}
 use Rattle.step_upwind.specs.Upwind.{upwindStart}
-use Rattle.step_fluxes.specs.Face.{stagesSum}
-use Rattle.step_fluxes.proofs.Laws.{start-room, flux-is}
+use Rattle.step_fluxes.specs.Face.{stagesSum, faceFlux}
+use Rattle.step_fluxes.proofs.Laws.{start-room}
 use Rattle.step_fluxes.proofs.face_flux.Statement.{statement}
 use Rattle.step_fluxes.proofs.face_flux.Tie as tie
 
@@ -29,19 +31,17 @@ face-sum-requires c κs =
 abbrev entry-from-face-sum : tie.After-face-sum → tie.Start
 entry-from-face-sum c = c .before .before
 
-mul-result : tie.Need-mul-result
-mul-result c = let h = entry-from-face-sum c .pre .1 .0 in let s = c .face-sum .ensures in fits (search sizes depth 20) tt
-
-div-result : tie.Need-div-result
-div-result c = let h = entry-from-face-sum c .pre .1 .0 in let s = c .face-sum .ensures in (lit< tt, fits (search sizes depth 20) tt)
+flux-of-requires : tie.Need-flux-of-requires
+flux-of-requires c κs = let h = entry-from-face-sum c .pre .1 .0 in let s = c .face-sum .ensures in (within (search sizes depth 20) tt, within (search sizes depth 20) tt)
 
 returns : tie.Need-returns
+unfolding faceFlux
 returns c =
-    let b = entry-from-face-sum c in
+    let f = c .before in
+    let b = entry-from-face-sum f in
     let a = b .args in
-    let h = b .pre .1 .0 in
-    let s = are-eq (c .face-sum .ensures) (ap (λ x. stagesSum (a .shape) (a .work .now) x (a .stride)) (begun (c .before))) in
-    bounded (search exacts depth 20) tt tt (flux-is (a .shape) (a .c) (a .behind) (a .ahead) (a .last) (a .stride) (a .work .now))
+    let s = read-back w64 (f .face-sum .ensures) tt ∙ ap (λ x. stagesSum (a .shape) (a .work .now) x (a .stride)) (begun (f .before)) in
+    bounded (search exacts depth 20) tt tt (ap₂ (fluxOf quadratic) (toZ-ofZ (b .fits .c)) s)
 
 pub face-flux-spec : {M : Type 1} → statement M
-face-flux-spec = tie.close (tie.spec upwind-start-requires face-sum-requires mul-result div-result returns)
+face-flux-spec = tie.close (tie.spec upwind-start-requires face-sum-requires flux-of-requires returns)
