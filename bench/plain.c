@@ -102,6 +102,7 @@ static int64_t face_flux(const int64_t *work, size_t n, int64_t c, size_t at, si
     int64_t sum = 0;
     for (int r = 0; r < 3; r++, at += stride)
         sum += WEIGHTS[r] * (work[at] + 4 * work[18 * n + at] + work[9 * n + at]);
+    /* To the nearest, the even one at a half. */
     int64_t product = c * sum;
     return (2 * product + 4095 + (product >> 12 & 1)) >> 13;
 }

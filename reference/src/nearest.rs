@@ -15,7 +15,7 @@ pub fn nearest(number: i128, divisor: i128) -> i128 {
     match from_below.cmp(&from_above) {
         Ordering::Less => below,
         Ordering::Greater => below + 1,
-        // Of two neighbours one is even: an odd floor gives way to the other.
+        // Of two neighbours one is even: an odd floor is one below it.
         Ordering::Equal => below + below.rem_euclid(2),
     }
 }

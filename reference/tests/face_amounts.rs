@@ -8,7 +8,7 @@ use reference::{step, Shape};
 
 /// Document 02, 2026-02: "to the nearest whole number, an exact half to the
 /// even one", told without a division: twice the distance from divisor · g is
-/// at most the divisor, and where it is as much g is even.
+/// at most the divisor, and where it equals the divisor g is even.
 fn is_nearest(number: i128, divisor: i128, g: i128) -> bool {
     let twice = 2 * (number - divisor * g).abs();
     twice < divisor || twice == divisor && g % 2 == 0
@@ -77,7 +77,7 @@ fn beside_a_half_the_nearest_one_is_taken() {
 
 #[test]
 fn the_whole_product_is_divided() {
-    // Each sum alone would give 0, and C · 0 is no amount.
+    // Each sum alone would give 0, so dividing it first would give 0.
     by_signs(2, 2048, 1);
     by_signs(1024, 3, 1);
     by_signs(1024, 4, 1);
@@ -103,7 +103,8 @@ fn a_half_has_no_donor() {
     }
 }
 
-/// A sum of any size that a face can have, often beside a half of its product.
+/// A sum of up to 40 bits, or one made of it whose product is at or beside a
+/// half.
 fn face_sum(rng: &mut Rng, c: i128) -> i128 {
     let bits = 1 + rng.below(40);
     let sum = i128::from(rng.below(1 << bits)) - (1 << (bits - 1));

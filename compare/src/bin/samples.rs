@@ -14,6 +14,18 @@ fn case_f() -> Vec<u8> {
     encoded(&[7, 7, 7, 7, 7, 7, 7, 7, 7, 5], &[1024, 0], shape)
 }
 
+/// One element and four smokes, each even, of values 1, 3, 5 and 7, so that no stage changes them: a face amount is C · 36v / 4096, and
+/// with C = ±512 it is ±4.5, ±13.5, ±22.5 and ±31.5 before it is rounded (document 02, 2026-02).
+fn halves() -> Vec<u8> {
+    let shape = Shape { nx: 1, ny: 1, k: 4 };
+    let even = |v| [v, v, v, v, v, v, v, v, v, 0];
+    encoded(
+        &[even(1), even(3), even(5), even(7)].concat(),
+        &[512, -512],
+        shape,
+    )
+}
+
 /// One plume on 16 by 8 elements in a shear wind: the east wind grows with j, the north wind is weak and the same everywhere.
 fn shear_16x8() -> Vec<u8> {
     let (nx, ny) = (16, 8);
@@ -61,6 +73,7 @@ fn main() -> io::Result<()> {
     let folder = Path::new(&folder);
     for (name, file) in [
         ("case_f", case_f()),
+        ("halves", halves()),
         ("shear_16x8", shear_16x8()),
         ("two_smokes", two_smokes()),
     ] {

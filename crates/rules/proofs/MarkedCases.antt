@@ -1,4 +1,5 @@
--- Document 01, "Cases beside the edges": the cases marked *, one theorem over one table; those of faces are document 02's, 2026-02.
+-- Document 01, "Cases beside the edges": the cases marked *, one theorem over one table. Those of faces are document 02's,
+-- 2026-02, and the one of document 01 that stays.
 use mathlib.Core.Path.{_≡_, refl}
 use mathlib.Core.Bool.{cond}
 use mathlib.Core.List.{List, [], _∷_, _++_, map}

@@ -1,4 +1,4 @@
--- Document 01, "Step": upwind values, the tendency, the three stages, and the face amounts (fluxes) G.
+-- Document 01, "Step": upwind values, the tendency, the three stages, and the face amounts (fluxes) G, rounded as document 02, 2026-02 has it.
 -- A stage is a function φ of an element and a node, the wind a function c of a face.
 use mathlib.Core.Bool.{cond}
 use mathlib.Core.List.{List}
@@ -86,8 +86,8 @@ stage2 φ0 t0 t1 e k = φ0 e k +ℤ floorDiv (t0 e k +ℤ t1 e k) 4
 unfoldable pub tentative : (ℕ → ℕ → ℤ) → (ℕ → ℕ → ℤ) → (ℕ → ℕ → ℤ) → (ℕ → ℕ → ℤ) → ℕ → ℕ → ℤ
 tentative φ0 t0 t1 t2 e k = φ0 e k +ℤ floorDiv (t0 e k +ℤ t1 e k +ℤ pos 4 *ℤ t2 e k) 6
 
--- "G = C · Σ ω·(p0 + 4·p2 + p1) / 4096", from the face's sum; document 02, 2026-02: "to the nearest whole number, an exact half to the
--- even one"
+-- "G = C · Σ ω·(p0 + 4·p2 + p1) / 4096", from the face's sum; in the place of "truncated toward zero" document 02, 2026-02: "to the
+-- nearest whole number, an exact half to the even one. G follows."
 unfoldable pub fluxOf : Kind → ℤ → ℤ → ℤ
 unfolding nearest
 fluxOf κ c s = nearest (c *ℤ s) (κ .faceDivisor)

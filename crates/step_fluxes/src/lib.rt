@@ -37,8 +37,9 @@ fn face_sum(work: &[i64], shape: Shape, start: usize, stride: usize) -> i64
     sum
 }
 
-// The flux of a face with wind c and that sum: their product by 4096, to the nearest whole number, the even one at a half.
-// With 4095 / 8192 added, a half is rounded down to the number below it; where that number is odd, 4096 / 8192 take the half to the next one.
+// The flux of a face with wind c and that sum: their product divided by 4096, to the nearest whole number, the even one at a half.
+// 4095 / 8192 added before rounding down take what is above a half up, and leave a half at the number below it; where that number is odd,
+// 4096 / 8192 take the half up, too.
 fn flux_of(c: i64, sum: i64) -> i64
     requires { ⌜ Within 1024 c ⌝ }
     requires { ⌜ Within faceSumSize sum ⌝ }

@@ -1,4 +1,4 @@
--- How `Within` goes through sums, products, floors and remainders, and the machine's widths.
+-- How `Within` goes through sums, products, quotients and remainders, and the machine's widths; a number's lowest bit.
 use mathlib.Core.Path.{_≡_, refl, ap, _∙_}
 use mathlib.Core.Bool.{Bool, true, false, not}
 use Prim.Native.Nat.{ℕ, zero, suc, _+_, _-_, _*_, _/_, _%_, _^_, _≤_, _<_, zero-le}

@@ -1,5 +1,5 @@
 -- Rounding to the nearest without a comparison: floor((2z + d − 1 + p) / (2d)), where p is the parity of floor(z / d), is `nearest z d`.
--- Between two whole numbers the floor moves just above the half where the lower one is even, and at the half where it is odd.
+-- Between n and n + 1 the result becomes n + 1 just above the half where n is even, and at the half where n is odd.
 use mathlib.Core.Path.{_≡_}
 use Prim.Native.Nat.{ℕ, suc, _+_, _*_, _-_, _%_, _≤_, _<_}
 use native.Mathlib.Nat.{mul-suc, mul-add, mul-assoc, lt-of-mul-lt-mul-left}
@@ -7,7 +7,7 @@ use native.Mathlib.Omega.{arith}
 use lib.Dec.{ltb, ltb→lt, nltb→le}
 use lib.IntN.{ℤ, pos, natAbs, _+ℤ_, _-ℤ_, _*ℤ_}
 use Rattle.whole.specs.Bound.{floorDiv}
-use Rattle.whole.specs.Nearest.{nearest, Nearest}
+use Rattle.whole.specs.Nearest.{nearest}
 use Rattle.whole.specs.Parts.{positive, negative}
 use Rattle.whole.proofs.Cases.{either}
 use Rattle.whole.proofs.NearestOne.{distance, nearest-is, nearest-one}
@@ -26,7 +26,7 @@ module _ (z : ℤ) (d : ℕ) (h : 0 < d) where
   abbrev rounded : ℤ
   rounded = floorDiv raised (2 * d)
 
-  -- both sides of z − d r, as naturals: r is `rounded`
+  -- z − d r is left − right, r being `rounded`
   abbrev left : ℕ
   left = positive z + d * negative rounded
 
@@ -45,7 +45,7 @@ module _ (z : ℤ) (d : ℕ) (h : 0 < d) where
   close : 2 * natAbs (z -ℤ pos d *ℤ rounded) ≤ d
   close = omega (arith, distance z d rounded, not-above, not-below)
 
-  -- at a half: quotient and `rounded` as naturals, x − y, and how far apart they are
+  -- quotient − rounded is x − y
   abbrev x : ℕ
   x = positive quotient + negative rounded
 
@@ -58,6 +58,7 @@ module _ (z : ℤ) (d : ℕ) (h : 0 < d) where
   quotient-above : left + d * y < d * x + right + d
   quotient-above = omega (arith, floor-above z d h, mul-add d (positive quotient) (negative rounded), mul-add d (positive rounded) (negative quotient))
 
+  -- a half above `rounded`, the quotient is `rounded`; a half below it, one less
   half-above : 2 * left ≡ 2 * right + d → x ≡ y
   half-above e =
       let le : x < suc y = lt-of-mul-lt-mul-left d (omega (arith, quotient-below, mul-suc d y)) in

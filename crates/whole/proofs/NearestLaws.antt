@@ -36,7 +36,7 @@ module _ (n d k : ℕ) (h : 0 < d) where
   unfolding nearestNatural
   at-least l = omega (arith, le-div-iff-mul-le {x = k} {y = n} h .1 l)
 
-  -- the bound itself is reached only without a rest
+  -- where the quotient is k there is no rest, and nothing is added
   pub at-most : n ≤ k * d → nearestNatural n d ≤ k
   unfolding nearestNatural
   at-most l = cond-ind (ltb (2 * (n % d)) d) 0 (cond (ltb d (2 * (n % d))) 1 (n / d % 2)) (λ x. n / d + x ≤ k)
@@ -80,12 +80,12 @@ unfolding nearest nearestNatural
 nearest-neg zero d = rw (zero-div d, zero-mod d, le-ltb d 0 (omega arith), cond-same {A = ℕ} (ltb 0 d))
 nearest-neg (suc n) d = refl
 
--- ---- the size
-pub abs-nearest : (z : ℤ) (d : ℕ) → natAbs (nearest z d) ≡ nearestNatural (natAbs z) d
+-- ---- the size of a signed one
+abs-nearest : (z : ℤ) (d : ℕ) → natAbs (nearest z d) ≡ nearestNatural (natAbs z) d
 unfolding nearest
 abs-nearest (pos n) d = refl
 abs-nearest (negsuc n) d = abs-neg (pos (nearestNatural (suc n) d))
 
--- to the nearest by d, what is within b d is within b
+-- rounded to the nearest by d, what is within b d is within b
 pub within-nearest : (z : ℤ) (d b : ℕ) → 0 < d → Within (b * d) z → Within b (nearest z d)
 within-nearest z d b h p = record { within = rw (abs-nearest z d) (at-most (natAbs z) d b h (p .within)) }

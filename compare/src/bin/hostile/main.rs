@@ -13,7 +13,7 @@ use std::process::ExitCode;
 use std::time::{Duration, Instant};
 
 /// Every truncation of these, every flipped bit of those that are short.
-const SAMPLES: [&str; 3] = ["case_f", "two_smokes", "shear_16x8"];
+const SAMPLES: [&str; 4] = ["case_f", "halves", "two_smokes", "shear_16x8"];
 const SHORT: usize = 1000;
 
 /// From how many random files on every answer must be met.
