@@ -12,4 +12,5 @@ pub mod Step
 pub mod Calls
 pub mod Ledger
 pub mod FieldFile
+pub mod Text
 pub mod Program

@@ -1,9 +1,9 @@
 -- Document 01, "Field file": what the program prints, as bytes.
 use mathlib.Core.Bool.{cond}
 use mathlib.Core.List.{List, [], _∷_, _++_}
-use Prim.Native.Nat.{ℕ, zero, suc, _+_, _*_, _/_, _%_}
+use Prim.Native.Nat.{ℕ, zero, suc, _*_}
 use lib.Dec.{ltb}
-use lib.IntN.{ℤ, pos, negsuc}
+use lib.IntN.{ℤ, pos}
 use lib.ListN.{length, replicate}
 use Rattle.whole.specs.Table.{blocks, at}
 use Rattle.rules.specs.declared.Shape.{Shape}
@@ -14,30 +14,9 @@ use Rattle.rules.specs.Field.{quadratic, elementLength}
 use Rattle.rules.specs.Grid.{faceIndex}
 use Rattle.rules.specs.Calls.{step, lengthsLent, call, totalReading}
 use Rattle.rules.specs.FieldFile.{readReply, readField, readWind}
+use Rattle.rules.specs.Text.{decimalBy, decimal, signed, space, newline}
 
--- ---- numbers in base ten
--- n without leading zeros: at most `more` digits before the last one
-unfoldable pub decimalBy : ℕ → ℕ → List ℕ
-decimalBy zero n = (48 + n) ∷ []
-decimalBy (suc more) n = cond (ltb n 10) ((48 + n) ∷ []) (decimalBy more (n / 10) ++ ((48 + n % 10) ∷ []))
-
--- numbers below 10^20 are printed, so 20 digits are enough
-abbrev pub decimal : ℕ → List ℕ
-decimal n = decimalBy 19 n
-
--- a minus sign, 45, before a number below 0
-unfoldable pub signed : ℤ → List ℕ
-unfolding decimalBy
-signed (pos n) = decimal n
-signed (negsuc n) = 45 ∷ decimal (suc n)
-
--- ---- lines: "Every printed line ends with a newline byte, 0A hexadecimal."
-abbrev pub space : List ℕ
-space = 32 ∷ []
-
-abbrev pub newline : List ℕ
-newline = 10 ∷ []
-
+-- ---- lines
 -- the words grid, face, total and refused, each with a space after it
 abbrev pub gridWord : List ℕ
 gridWord = 103 ∷ 114 ∷ 105 ∷ 100 ∷ 32 ∷ []

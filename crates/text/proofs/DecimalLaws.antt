@@ -14,7 +14,7 @@ use lib.Signed.{ltZ}
 use lib.ListN.{length, length-append}
 use Rattle.whole.proofs.Cases.{cond-ind}
 use Rattle.io.specs.Digits.{digits, Fewest}
-use Rattle.rules.specs.Program.{decimalBy, signed}
+use Rattle.rules.specs.Text.{decimalBy, signed}
 
 below-ten : (more n : ℕ) → n < 10 → (48 + n) ∷ [] ≡ decimalBy more n
 unfolding decimalBy

@@ -3,7 +3,7 @@ ghost use mathlib.Core.Path.{_≡_};
 ghost use Prim.Native.Nat.{_+_, _≤_};
 ghost use lib.IntN.{natAbs};
 ghost use lib.ListN.{length};
-ghost use Rattle.rules.specs.Program.{decimal, signed, newline};
+ghost use Rattle.rules.specs.Text.{decimal, signed, newline};
 ghost use Rattle.text.specs.Added.{Added};
 
 // The bytes of a word.

@@ -2,7 +2,7 @@ use mathlib.Core.Path.{_≡_, ap, _∙_}
 use native.Mathlib.Omega.{arith}
 use lib.ListN.{length, take}
 use borrow.Author.Needs.{needs}
-use Rattle.rules.specs.Program.{decimalBy}
+use Rattle.rules.specs.Text.{decimalBy}
 use Rattle.text.proofs.AddedLaws.{word-is}
 use Rattle.text.proofs.DecimalLaws.{decimal-is, decimal-few}
 use Rattle.text.proofs.number.Statement.{statement}

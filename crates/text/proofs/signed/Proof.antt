@@ -4,7 +4,7 @@ use borrow.Author.Needs.{needs}
 use native.Mathlib.Omega.{arith}
 use lib.IntN.{natAbs}
 use mir.Facts.{toZ-ofZ}
-use Rattle.rules.specs.Program.{decimalBy}
+use Rattle.rules.specs.Text.{decimalBy}
 use Rattle.text.proofs.AddedLaws.{same-bytes, then, wider}
 use Rattle.text.proofs.DecimalLaws.{signed-below, signed-above}
 use Rattle.text.proofs.signed.Statement.{statement}

@@ -2,7 +2,8 @@
 use mathlib.Core.Path.{ap}
 use borrow.Author.Needs.{needs}
 use mir.Facts.{toZ-ofZ}
-use Rattle.rules.specs.Program.{signed, faceLine}
+use Rattle.rules.specs.Text.{signed}
+use Rattle.rules.specs.Program.{faceLine}
 use Rattle.text.proofs.AddedLaws.{added-length, added-room, same-bytes, then}
 use Rattle.text_lines.proofs.face_line.Statement.{statement}
 use Rattle.text_lines.proofs.face_line.Tie as tie
