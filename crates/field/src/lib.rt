@@ -1,6 +1,10 @@
 // The calls on a field: fresh, wind, load, emission, withdrawal and the readings.
-// A call has no `requires`: what document 01 doesn't admit is refused by its number, and a refused call writes nothing.
-ghost use Rattle.rules.specs.Field.{quadratic};
+// All but `element_mass` are calls. A call has no `requires`: what document 01 doesn't admit is refused by its number, and a refused call writes nothing.
+ghost use mathlib.Core.Path.{_≡_};
+ghost use Prim.Native.Nat.{_≤_};
+ghost use lib.ListN.{length};
+ghost use Rattle.rules.specs.Field.{quadratic, element, fieldLength, part, mass};
+ghost use Rattle.field_layout.specs.Places.{Inside};
 ghost use Rattle.rules.specs.Calls.{load, emission, withdrawal, massReading, totalReading, answers, reads, CallGives, FreshGives, WindGives, oneFace};
 use field_search::LIMIT;
 use rules::Face;
@@ -29,6 +33,17 @@ pub fn total(field: &[u32], shape: Shape, tracer: usize) -> Reading
     field_search::tracer_total(&field[start..end], shape)
 }
 
+// The mass of an element that is there. A leaf: the field has room.
+pub fn element_mass(field: &[u32], shape: Shape, tracer: usize, i: usize, j: usize) -> u64
+    requires { ⌜ Inside shape tracer i j ⌝ }
+    requires { ⌜ fieldLength quadratic shape ≤ length (now field) ⌝ }
+    ensures { λ r. ⌜ r ≡ mass quadratic (part quadratic shape tracer (now (field .entry))) (element shape i j) ⌝ }
+{
+    let start = field_layout::element_start(shape, tracer, i, j);
+    let end = start + NUMBERS;
+    field_elements::element::mass(&field[start..end])
+}
+
 // An element's mass.
 pub fn mass(field: &[u32], shape: Shape, tracer: usize, i: usize, j: usize) -> Reading
     ensures { λ r. ⌜ reads r (massReading quadratic shape tracer i j (now (field .entry))) ⌝ }
@@ -40,9 +55,7 @@ pub fn mass(field: &[u32], shape: Shape, tracer: usize, i: usize, j: usize) -> R
             if !field_layout::on_grid(shape, i, j) {
                 return Reading::Refused(Refusal::NoSuchElement);
             }
-            let start = field_layout::element_start(shape, tracer, i, j);
-            let end = start + NUMBERS;
-            Reading::Number(field_elements::element::mass(&field[start..end]))
+            Reading::Number(element_mass(field, shape, tracer, i, j))
         }
     }
 }
