@@ -13,4 +13,5 @@ pub mod Calls
 pub mod Ledger
 pub mod FieldFile
 pub mod Text
+pub mod Map
 pub mod Program

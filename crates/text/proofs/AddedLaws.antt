@@ -1,27 +1,18 @@
 -- Bytes added to a buffer, one after the other.
 use mathlib.Core.Path.{_≡_, refl, sym, ap, subst, _∙_}
 use mathlib.Core.List.{List, [], _∷_, _++_, append-assoc}
-use Prim.Native.Nat.{ℕ, _+_, _*_, _≤_, _<_}
-use native.Mathlib.Nat.{le-trans, suc-mul, mul-one}
+use Prim.Native.Nat.{ℕ, _+_, _*_, _-_, _≤_, _<_}
+use native.Mathlib.Nat.{le-trans, suc-mul, mul-one, zero-sub}
 use native.Mathlib.Numerals.{add-one}
 use native.Mathlib.Omega.{arith}
-use lib.ListN.{length, getD, set, take, drop, length-append, take-append-drop}
+use lib.ListN.{length, getD, set, take, drop, length-append, length-replicate, take-append-drop}
 use lib.Seq.{drop-drop, length-take-le, take-at, drop-at, set-split, ext-getD}
 use Rattle.whole.specs.Table.{blocks, overwrite}
-use Rattle.whole.proofs.TableLaws.{blocks-more, length-blocks, getD-blocks}
-use Rattle.whole.proofs.OverwriteLaws.{length-overwrite, part-room}
+use Rattle.whole.proofs.TableLaws.{blocks-more, length-blocks, getD-blocks, table-blocks}
+use Rattle.whole.proofs.OverwriteLaws.{length-overwrite, part-room, table-const}
+use Rattle.whole.proofs.ListParts.{overwrite-next}
+use Rattle.rules.specs.Text.{space, blanks, rightAligned}
 use Rattle.text.specs.Added.{Added}
-
--- ---- two lists written, the second where the first ends
-overwrite-then : (at e : ℕ) (a b xs : List ℕ) → e ≡ at + length a → e + length b ≤ length xs → overwrite e b (overwrite at a xs) ≡ overwrite at (a ++ b) xs
-unfolding overwrite
-overwrite-then at e a b xs h room =
-    let p = take at xs in
-    let q = drop (length a) (drop at xs) in
-    let front : length (p ++ a) ≡ e = length-append p a ∙ omega (arith, length-take-le at xs (omega arith)) in
-    let all : p ++ (a ++ q) ≡ (p ++ a) ++ q = sym (append-assoc p a q) in
-    let rest : drop (length b) q ≡ drop (length (a ++ b)) (drop at xs) = drop-drop (length b) (length a) (drop at xs) ∙ ap (λ k. drop k (drop at xs)) (sym (length-append a b)) in
-    rw (all, take-at (p ++ a) q e front, drop-at (p ++ a) q e front, rest) (append-assoc p a (b ++ drop (length (a ++ b)) (drop at xs)) ∙ ap (λ y. p ++ y) (sym (append-assoc a b (drop (length (a ++ b)) (drop at xs)))))
 
 module _ {n at e : ℕ} {a old mid : List ℕ} (p : Added n at a old mid e) where
   -- the buffer keeps its length
@@ -43,7 +34,7 @@ module _ {n at e : ℕ} {a old mid : List ℕ} (p : Added n at a old mid e) wher
   -- more bytes, added where they end
   pub then : {m f : ℕ} {b new : List ℕ} → Added m e b mid new f → Added (n + m) at (a ++ b) old new f
   then {m} {f} {b} {new} q = record {
-    same = q .same ∙ ap (overwrite e b) (p .same) ∙ overwrite-then at e a b old (p .ends) (omega (arith, added-length, q .fits));
+    same = q .same ∙ ap (overwrite e b) (p .same) ∙ overwrite-next at e a b old (sym (p .ends)) (omega (arith, added-length, q .fits));
     ends = omega (arith, p .ends, q .ends, length-append a b);
     few = omega (arith, p .few, q .few, length-append a b);
     fits = omega (arith, added-length, p .ends, q .fits, length-append a b);
@@ -94,3 +85,22 @@ word-added {at} {e} {old} {new} l p = wider (same-bytes (bytes-are l) p) (length
 -- a word that is b, which has at most n bytes
 pub word-is : {n at e : ℕ} {a b old new : List ℕ} → a ≡ b → length b ≤ n → Added (length a) at a old new e → Added n at b old new e
 word-is {n} h few p = same-bytes h (wider p n (omega (arith, ap length h)))
+
+-- blanks, one at a time
+pub blanks-added : {at e : ℕ} {old new : List ℕ} (n : ℕ) → Added (n * 1) at (blocks n (λ _. space)) old new e → Added n at (blanks n) old new e
+blanks-added n p = wider (same-bytes (sym (table-blocks n (λ _. 32)) ∙ table-const n 32) p) n (omega arith)
+
+-- blanks and a word behind them are the word right-aligned
+pub aligned-added : {at e f : ℕ} {old mid new : List ℕ} (width m : ℕ) (word : List ℕ) → m ≡ width - length word → Added m at (blanks m) old mid e → Added (length word) e word mid new f
+    → Added (length (rightAligned width word)) at (rightAligned width word) old new f
+unfolding rightAligned
+aligned-added width m word h p q = let all = same-bytes (ap (λ k. blanks k ++ word) h) (then p q) in record { same = all .same; ends = all .ends; few = omega arith; fits = all .fits }
+
+pub aligned-length : (width : ℕ) (word : List ℕ) → length (rightAligned width word) ≡ width - length word + length word
+unfolding rightAligned
+aligned-length width word = length-append (blanks (width - length word)) word ∙ ap (λ k. k + length word) (length-replicate (width - length word) 32)
+
+-- in no width a word stands as it is
+pub unaligned : (word : List ℕ) → rightAligned 0 word ≡ word
+unfolding rightAligned
+unaligned word = ap (λ k. blanks k ++ word) (zero-sub (length word))

@@ -1,34 +1,19 @@
-use mathlib.Core.Path.{_≡_, ap, _∙_}
-use native.Mathlib.Omega.{arith}
-use lib.ListN.{length, take}
+-- A number as it stands is one right-aligned in no width.
+use mathlib.Core.Path.{ap}
 use borrow.Author.Needs.{needs}
+use native.Mathlib.Omega.{arith}
+use lib.ListN.{length}
 use Rattle.rules.specs.Text.{decimalBy}
-use Rattle.text.proofs.AddedLaws.{word-is}
-use Rattle.text.proofs.DecimalLaws.{decimal-is, decimal-few}
+use Rattle.text.proofs.AddedLaws.{word-is, unaligned}
+use Rattle.text.proofs.DecimalLaws.{decimal-few}
 use Rattle.text.proofs.number.Statement.{statement}
 use Rattle.text.proofs.number.Tie as tie
 
--- places of the code, seen from later ones
-abbrev entry-from-decimal : tie.After-decimal → tie.Start
-entry-from-decimal c = c .before .before .before
-
--- what `io::decimal` wrote
-written : (c : tie.After-decimal) → take (c .decimal .result) (c .decimal .last .1 .0) ≡ decimalBy 19 (entry-from-decimal c .args .n)
-written c = c .decimal .ensures .1 .1 ∙ decimal-is (c .decimal .result) (entry-from-decimal c .args .n) (entry-from-decimal c .fits .n .fits) (c .decimal .ensures .1 .0)
-
-put-requires : tie.Need-put-requires
-put-requires c κs = omega (arith, ap length (written (c .before .before)), decimal-few 19 (c .before .before .before .before .before .args .n))
+right-aligned-requires : tie.Need-right-aligned-requires
+right-aligned-requires c κs = let n = c .before .before .args .n in omega (arith, c .before .before .pre, ap length (unaligned (decimalBy 19 n)), decimal-few 19 n)
 
 returns : tie.Need-returns
-returns c = word-is (written (c .before .before .before .before .before)) (decimal-few 19 (c .before .before .before .before .before .before .before .before .args .n)) (c .before .before .put .ensures)
+returns c = let n = c .before .before .before .before .before .args .n in word-is (unaligned (decimalBy 19 n)) (decimal-few 19 n) (c .before .before .right-aligned .ensures)
 
 pub number-spec : {M : Type 1} → statement M
-number-spec =
-    tie.close
-    (tie.spec
-    (λ c κs. search needs)
-    (λ c. search needs)
-    (λ c. search needs)
-    put-requires
-    (λ c. search needs)
-    returns)
+number-spec = tie.close (tie.spec right-aligned-requires (λ c. search needs) returns)
