@@ -15,6 +15,8 @@
  *   records  the bytes of nx * ny wind records, one per element, j outer, i inner. A record is a kind byte and then numbers, each an
  *            IEEE 754 binary64 (f64) in 8 bytes, little-endian, in elements per step: kind 0 has none (both winds become 0), kind 1
  *            an east and a north component, kind 2 an east component (the north wind becomes 0).
+ *   page     the bytes of a printed page, 74 * (((nx + 6) / 7) * (ny + 1) + 1) of them, no terminating 0: lines of 73 characters
+ *            and a newline.
  *   file     the bytes of a field file; 4 * nx * ny + 40 * nx * ny * smokes + 4 * (smokes + 1) + 12 of them.
  *
  * Answers. A uint8_t is 0 where the call was accepted, else the refusal's number. An int64_t is the number asked for, or the
@@ -88,6 +90,13 @@ int64_t plume_mass(const uint32_t *field, size_t field_count, size_t nx, size_t 
 /* A smoke's total. Refusals 2 4 6 7, negated. */
 int64_t plume_total(const uint32_t *field, size_t field_count, size_t nx, size_t ny, size_t smokes,
                     size_t smoke);
+
+/* Prints a smoke's map into page, and answers how many bytes. Seven columns of elements make a block, the westmost first; the last may
+ * have fewer. A block's first line has the columns' numbers i, each right-aligned in ten after three blanks. Then each row j from the
+ * north on has j right-aligned in three and what its elements hold, each in ten; where the grid has no column are blanks. The last line
+ * has "sum" and the total right-aligned in 70. Refusals 2 4 6 7, negated. */
+int64_t plume_map(uint8_t *page, size_t page_count, const uint32_t *field, size_t field_count,
+                  size_t nx, size_t ny, size_t smokes, size_t smoke);
 
 /* Reads a field file, file_count bytes and no more, into field and wind. Answers the shape as nx + 256 * ny + 65536 * smokes.
  * Refusals 1 2 3 4 5 6, negated. */

@@ -1,5 +1,5 @@
-/* Uses the library from C: a fresh field, a wind, an emission, steps, totals, a field file written and read back, and a wind imported
- * from records. Each answer is checked; the program ends with 1 at the first that is not as it should be. */
+/* Uses the library from C: a fresh field, a wind, an emission, steps, totals, a map for the printer, a field file written and read back,
+ * and a wind imported from records. Each answer is checked; the program ends with 1 at the first that is not as it should be. */
 #include <inttypes.h>
 #include <stdio.h>
 #include <stdlib.h>
@@ -16,6 +16,7 @@ enum {
     FACES = 2 * ELEMENTS,
     WORK = 64 * ELEMENTS,
     RECORD = 17, /* bytes of the longest kind of record */
+    PAGE = 74 * ((NX + 6) / 7 * (NY + 1) + 1),
     FILE_LENGTH = 2 * FACES + 4 * FIELD + 4 * (SMOKES + 1) + 12,
     EMITTED = 100000
 };
@@ -26,6 +27,7 @@ static int32_t report[FACES];
 static int64_t work[WORK];
 static uint8_t file[FILE_LENGTH];
 static uint8_t records[RECORD * ELEMENTS];
+static uint8_t page[PAGE];
 
 /* Ends the program where a call answers something else than it should. */
 static void expect(const char *call, int64_t answer, int64_t right)
@@ -59,6 +61,15 @@ static void step(int number)
         printf(" %6" PRId64, mass(i, 2));
     printf("   over the east face of (1, 2): %" PRId32 "\n", report[2 * NX + 1]);
     expect("total", plume_total(field, FIELD, NX, NY, SMOKES, 0), EMITTED);
+}
+
+/* Prints the map of smoke 0. A page has lines of 73 characters and a newline each. */
+static void mapped(void)
+{
+    expect("map on a page that is too short", plume_map(page, PAGE - 1, field, FIELD, NX, NY, SMOKES, 0), -4);
+    expect("map", plume_map(page, PAGE, field, FIELD, NX, NY, SMOKES, 0), PAGE);
+    expect("end of the first line", page[73], '\n');
+    fwrite(page, 1, PAGE, stdout);
 }
 
 /* A field that is written to a file is the field that is read from it. */
@@ -120,6 +131,7 @@ int main(void)
     expect("emission", plume_emission(field, FIELD, NX, NY, SMOKES, 0, 1, 2, EMITTED), 0);
     for (int number = 1; number <= 4; number++)
         step(number);
+    mapped();
     written_and_read();
     imported();
     expect("withdrawal of too much", plume_withdrawal(field, FIELD, NX, NY, SMOKES, 0, 1, 2, EMITTED + 1), 10);

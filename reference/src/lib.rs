@@ -1,8 +1,8 @@
 //! Reference implementation of document 01, "Smoke transport with
-//! whole-number TMAR", and of two requests of document 02, "Further changes
-//! requested by customers": 2026-01, "Wind from the weather office", and
-//! 2026-02, "Face amounts to the nearest". It is written from the texts alone;
-//! no other request is in it.
+//! whole-number TMAR", and of three requests of document 02, "Further changes
+//! requested by customers": 2026-01, "Wind from the weather office", 2026-02,
+//! "Face amounts to the nearest", and 2026-03, "A map on the printer". It is
+//! written from the texts alone; no other request is in it.
 //!
 //! Every call answers `Result<_, u8>`; the error is the refusal's number.
 //! Quotations in comments are sentences of document 01, or of a request where
@@ -19,6 +19,8 @@ pub mod import;
 pub mod import_generator;
 pub mod import_numbers;
 pub mod lists;
+pub mod map;
+pub mod map_program;
 pub mod nearest;
 pub mod program;
 pub mod random_file;
@@ -31,5 +33,6 @@ pub use calls::{emission, fresh, load, mass, total, wind, withdrawal, Way};
 pub use face_wind::{face_wind, FaceWind};
 pub use file::{read_file, write_file};
 pub use import::import;
+pub use map::map;
 pub use shape::Shape;
 pub use step::step;

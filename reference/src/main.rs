@@ -1,9 +1,10 @@
-use reference::{generator, lists, program, random_file, Shape};
+use reference::{generator, lists, map_program, program, random_file, Shape};
 use std::io::{self, Read, Write};
 use std::process::ExitCode;
 use std::str::FromStr;
 
 const USAGE: &str = "usage: reference program < FILE
+       reference map < FILE
        reference lists < SCRIPT
        reference random SEED NX NY K COUNT
        reference field SEED NX NY K [KIND]";
@@ -28,6 +29,7 @@ fn answer(words: &[String]) -> Result<Vec<u8>, String> {
     let words: Vec<&str> = words.iter().map(String::as_str).collect();
     match words[..] {
         ["program"] => Ok(program::output(&input()?).into_bytes()),
+        ["map"] => Ok(map_program::output(&input()?).into_bytes()),
         ["lists"] => {
             let script = String::from_utf8(input()?).map_err(|_| "the script is not text")?;
             Ok(lists::output(&script)?.into_bytes())

@@ -15,25 +15,46 @@ const LARGEST: Shape = Shape {
     k: 8,
 };
 
-/// What the program prints for the file. A refusal stands alone, so nothing
-/// printed before it is kept.
+/// A file's shape, and the lent field and wind that it was read into.
+pub struct Taken {
+    pub shape: Shape,
+    pub field: Vec<u32>,
+    pub wind: Vec<i16>,
+}
+
+/// What the program prints for the file.
 pub fn output(file: &[u8]) -> String {
-    match stepped(file) {
+    printed(stepped(file))
+}
+
+/// A refusal stands alone, so nothing printed before it is kept.
+pub fn printed(text: Result<String, u8>) -> String {
+    match text {
         Ok(text) => text,
         Err(number) => format!("refused {number}\n"),
     }
 }
 
-fn stepped(file: &[u8]) -> Result<String, u8> {
+/// Reads the file into lent buffers.
+pub fn taken(file: &[u8]) -> Result<Taken, u8> {
     // "Over 65,536 bytes it prints "refused 3", before any other check."
     if file.len() > 65_536 {
         return Err(BAD_LAYOUT);
     }
     let mut field = vec![0; LARGEST.field_len()];
     let mut wind = vec![0; LARGEST.wind_len()];
+    let shape = read_file(file, &mut field, &mut wind)?;
+    Ok(Taken { shape, field, wind })
+}
+
+fn stepped(file: &[u8]) -> Result<String, u8> {
+    let Taken {
+        shape,
+        mut field,
+        wind,
+    } = taken(file)?;
     let mut report = vec![0; LARGEST.wind_len()];
     let mut work = vec![0; LARGEST.work_len()];
-    let shape = read_file(file, &mut field, &mut wind)?;
     let Shape { nx, ny, k } = shape;
     let mut text = format!("grid {nx} {ny} {k}\n");
     for smoke in 0..k {

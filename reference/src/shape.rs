@@ -19,6 +19,12 @@ pub const PER_ELEMENT: usize = 10;
 
 pub const NODES: usize = 9;
 
+/// "The page goes in blocks of seven columns of elements" (request 2026-03).
+pub const PAGE_COLUMNS: usize = 7;
+
+/// "Each line is exactly 73 characters and a newline." (request 2026-03)
+pub const PAGE_WIDTH: usize = 73;
+
 const TAIL: usize = 12;
 
 #[derive(Clone, Copy, Debug, PartialEq, Eq)]
@@ -78,6 +84,15 @@ impl Shape {
 
     pub fn file_len(self) -> usize {
         self.table_offset() + 4 * (self.k + 1) + TAIL
+    }
+
+    /// Bytes of a printed map (request 2026-03). The last block may have fewer
+    /// columns. A block has "A block's first line" and "one line per j"; the
+    /// line with the sum comes once, "After the last block".
+    pub fn page_len(self) -> usize {
+        let blocks = (self.nx + PAGE_COLUMNS - 1) / PAGE_COLUMNS;
+        let lines = blocks * (self.ny + 1) + 1;
+        lines * (PAGE_WIDTH + 1)
     }
 
     pub fn has_element(self, i: usize, j: usize) -> bool {

@@ -1,9 +1,8 @@
 //! Writes the sample files and what the reference program prints for each. Usage: samples FOLDER
 
 use reference::file::encoded;
-use reference::program::output;
 use reference::shape::{NODES, PER_ELEMENT};
-use reference::Shape;
+use reference::{map_program, program, Shape};
 use std::fs;
 use std::io;
 use std::path::Path;
@@ -78,7 +77,9 @@ fn main() -> io::Result<()> {
         ("two_smokes", two_smokes()),
     ] {
         fs::write(folder.join(format!("{name}.plume")), &file)?;
-        fs::write(folder.join(format!("{name}.txt")), output(&file))?;
+        fs::write(folder.join(format!("{name}.txt")), program::output(&file))?;
+        let pages = map_program::output(&file);
+        fs::write(folder.join(format!("{name}.pages.txt")), pages)?;
         println!("{name}: {} bytes", file.len());
     }
     Ok(())

@@ -4,6 +4,7 @@ mod buffers; // buffers.rt: buffers to start from
 mod calls; // calls.rt: one line for a call
 mod contents; // contents.rt: what accepted calls leave
 mod imports; // imports.rt: imports of wind records
+mod maps; // maps.rt: maps for the printer
 mod edges; // edges.rt: the last number that passes, and the first that doesn't
 mod orders; // orders.rt: calls with two faults
 mod refusals; // refusals.rt: each refusal of each call
@@ -36,4 +37,6 @@ fn main() {
     imports::faults();
     imports::two_faults();
     imports::refused_before_records();
+    maps::pages();
+    maps::refusals();
 }

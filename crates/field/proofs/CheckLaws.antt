@@ -1,13 +1,13 @@
 -- The calls' checks: what the reading of a tracer's total, which mass, emission and withdrawal begin with, says of the call.
 use mathlib.Core.Path.{_≡_, refl, sym, ap, _∙_}
-use mathlib.Core.Bool.{Bool, true, false, _&&_}
+use mathlib.Core.Bool.{true, false, _&&_}
 use mathlib.Core.List.{List, [], _∷_, _++_}
 use Prim.Native.Nat.{ℕ, _+_, _≤_, _<_}
 use native.Mathlib.Omega.{arith}
 use borrow.Author.Tests.{lt-leb, le-leb, lt-ltb, le-ltb}
 use lib.Dec.{leb, ltb, leb→le, ltb→lt}
 use lib.ListN.{length}
-use Rattle.whole.proofs.Cases.{both-yes}
+use Rattle.whole.proofs.Cases.{both-yes, and-true}
 use Rattle.rules.specs.declared.Shape.{Shape}
 use Rattle.rules.specs.Answers.{Answer, accepted, refused, Check, check, answer, plain}
 use Rattle.rules.specs.Field.{quadratic, admitted, element, onGrid, fieldLength, part, withPart, mass, total, limit, Admitted}
@@ -19,10 +19,6 @@ use Rattle.rules.proofs.FieldLaws.{total-small, sound-there}
 use Rattle.rules.proofs.PartLaws.{mass-le-total}
 use Rattle.rules.proofs.GridLaws.{element-lt}
 use Rattle.rules.proofs.ShapeLaws.{ranges}
-
-and-true : (b : Bool) → (b && true) ≡ b
-and-true true = refl
-and-true false = refl
 
 module _ (g : Shape) (s : ℕ) (f : List ℕ) where
   abbrev p : List ℕ

@@ -18,7 +18,7 @@ use Rattle.rules.specs.Answers.{accepted}
 use Rattle.rules.specs.Field.{Kind, faces, fieldLength}
 use Rattle.rules.specs.Calls.{windAt}
 use Rattle.rules.specs.Bytes.{byteAt, bytes32, number32, bytes16, number16}
-use Rattle.rules.specs.FieldFile.{sectionStart, tableStart, fileLength, mark, tailShape, tailRight, fileWind, offsetsRight, fileField, readReply, writeReply, writeFile}
+use Rattle.rules.specs.FieldFile.{sectionStart, tableStart, fileLength, mark, tailShape, tailRight, fileWind, offsetsRight, fileField, fieldSound, readReply, writeReply, writeFile}
 use Rattle.rules.proofs.ShapeLaws.{ranges}
 use Rattle.file_round_trips.specs.RoundTrips.{ReadIsWritten}
 use Rattle.file_layout.proofs.NumberLaws.{Bytes, Has, has-four, code32, code16}
@@ -62,7 +62,7 @@ module _ (κ : Kind) (g : Shape) (file field : List ℕ) (wind : List ℤ) (r : 
   size = placed .long ∙ length-is κ g
 
   -- ---- what stands in the buffers
-  abbrev new-field : List ℕ
+  abbrev pub new-field : List ℕ
   new-field = overwrite 0 (fileField κ g file) field
 
   abbrev new-wind : List ℤ
@@ -90,11 +90,15 @@ module _ (κ : Kind) (g : Shape) (file field : List ℕ) (wind : List ℤ) (r : 
   unfolding fileWind
   wind-number f l = getD-table (faces g) (λ f. number16 file (2 * f)) f (pos 0) l ∙ ap (number16 file) (sym (zero-add (2 * f)))
 
-  new-field-long : length new-field ≡ length field
+  pub new-field-long : length new-field ≡ length field
   new-field-long = front-length (fileField κ g file) field (omega (arith, field-long, r .field-room))
 
   new-wind-long : length new-wind ≡ length wind
   new-wind-long = front-length (fileWind g file) wind (omega (arith, wind-long, r .wind-room))
+
+  -- the buffers are sound
+  pub new-field-sound : T (fieldSound κ g new-field)
+  new-field-sound = fields-same κ g (fileField κ g file) new-field (omega (arith, field-long)) (omega (arith, r .field-room, new-field-long)) field-at (r .tracers)
 
   -- so the file is that of the buffers, and these may be written
   module _ (bytes : Bytes file) where
@@ -122,7 +126,7 @@ module _ (κ : Kind) (g : Shape) (file field : List ℕ) (wind : List ℤ) (r : 
         wind-room = omega (arith, r .wind-room, new-wind-long);
         out-room = omega (arith, placed .long);
         winds = winds-same g (fileWind g file) new-wind wind-at (r .winds);
-        tracers = fields-same κ g (fileField κ g file) new-field (omega (arith, field-long)) (omega (arith, r .field-room, new-field-long)) field-at (r .tracers);
+        tracers = new-field-sound;
       }
 
       written-again : ReadIsWritten κ g file field wind out

@@ -5,19 +5,16 @@ ghost use lib.ListN.{length, take};
 ghost use Rattle.io.specs.Counts.{Counts};
 ghost use Rattle.whole.specs.Table.{overwrite};
 ghost use Rattle.rules.specs.Field.{faces, Admitted};
-ghost use Rattle.rules.specs.Program.{reportLent, workLent, stepped, upTo, printed, output};
+ghost use Rattle.rules.specs.Program.{reportLent, workLent, stepped, upTo, printed, steps, output};
 ghost use Rattle.output.specs.AddedLines.{tracerRoom, AddedOrRefused};
+use program_file::ELEMENTS;
+use program_file::SMOKES;
 use rules::FileRead;
 use rules::Outcome;
 use rules::Reading;
 use rules::Refusal;
 use rules::Shape;
 use rules::element::NUMBERS;
-
-// "It lends buffers for exactly 128 elements and eight smokes".
-const ELEMENTS: usize = 128;
-
-const SMOKES: usize = 8;
 
 // No text is longer.
 const TEXT: usize = 200_000;
@@ -108,18 +105,15 @@ fn fill(
     requires { ⌜ length (now work) ≡ workLent ⌝ }
     requires { ⌜ length (now out) ≡ 200000 ⌝ }
     ensures { λ r. ⌜ r ≤ 200000 ⌝ }
-    ensures { λ r. ⌜ take r (now (out .exit)) ≡ printed (now (file .entry)) (now (field .entry)) (now (wind .entry)) ⌝ }
+    ensures { λ r. ⌜ take r (now (out .exit)) ≡ printed steps (now (file .entry)) (now (field .entry)) (now (wind .entry)) ⌝ }
 {
-    if 65536 < file.len() {
-        return text_lines::refused_line(out, 0, 3);
-    }
-    let answer = file_reading::read(file, field, wind);
+    let answer = program_file::read(file, field, wind);
     match answer {
-        FileRead::Refused(r) => text_lines::refused_line(out, 0, rules::refusal_number(r)),
+        FileRead::Refused(r) => program_file::refusal(out, r),
         FileRead::Found(shape) => {
             let added = tracers(out, field, wind, report, work, shape);
             match added {
-                Lines::Refused(r) => text_lines::refused_line(out, 0, rules::refusal_number(r)),
+                Lines::Refused(r) => program_file::refusal(out, r),
                 Lines::UpTo(end) => end,
             }
         }

@@ -7,6 +7,8 @@ use Rattle.rules.specs.declared.Shape.{Shape}
 use Rattle.rules.specs.Field.{quadratic}
 use Rattle.rules.specs.Calls.{massReading, totalReading}
 use Rattle.rules.specs.FieldFile.{readReply, writeReply}
+use Rattle.rules.specs.Map.{mapReading}
+use Rattle.rules.proofs.MapLaws.{map-small}
 use Rattle.rules.proofs.ShapeLaws.{ranges}
 use Rattle.field.proofs.CheckLaws.{found, held}
 use Rattle.file_layout.proofs.LayoutLaws.{length-le}
@@ -19,6 +21,9 @@ total-answers g s f = record { small = λ n e. found g s f n e .small }
 
 pub mass-answers : (g : Shape) (s i j : ℕ) (f : List ℕ) → Small (massReading quadratic g s i j f)
 mass-answers g s i j f = record { small = λ n e. held g s i j f n e .small }
+
+pub map-answers : (g : Shape) (s : ℕ) (f page : List ℕ) → Small (mapReading quadratic g s f page)
+map-answers g s f page = record { small = λ n e. map-small quadratic g s f page n e }
 
 -- ---- the answers of the field file are small
 pub read-answers : (file field : List ℕ) (wind : List ℤ) → AdmittedShape (readReply quadratic file field wind)

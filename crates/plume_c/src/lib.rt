@@ -4,6 +4,7 @@
 ghost use Rattle.rules.specs.Field.{quadratic};
 ghost use Rattle.rules.specs.Calls.{load, emission, withdrawal, massReading, totalReading, CallGives, StepGives, FreshGives, WindGives, oneFace, fromRecords};
 ghost use Rattle.rules.specs.FieldFile.{ReadGives, WriteGives};
+ghost use Rattle.rules.specs.Map.{MapGives};
 ghost use Rattle.c_numbers.specs.Numbers.{shapeOf, faceOf, coded, numbered, shaped};
 use rules::Shape;
 
@@ -192,6 +193,26 @@ pub extern "C" fn plume_total(
         tracers: smokes,
     };
     c_numbers::number_or(field::total(field, shape, smoke))
+}
+
+// A smoke's page for the printer: its bytes.
+#[no_mangle]
+pub extern "C" fn plume_map(
+    page: &mut [u8],
+    field: &[u32],
+    nx: usize,
+    ny: usize,
+    smokes: usize,
+    smoke: usize,
+) -> i64
+    ensures { λ r. ⌜ MapGives quadratic (shapeOf nx ny smokes) smoke (now (field .entry)) (now (page .entry)) (numbered r) (now (page .exit)) ⌝ }
+{
+    let shape = Shape {
+        nx,
+        ny,
+        tracers: smokes,
+    };
+    c_numbers::number_or(map::map(page, field, shape, smoke))
 }
 
 // Reads a field file: its shape as nx + 256 ny + 65536 K.

@@ -1,8 +1,8 @@
-// Runs the program on stored files, named by its arguments, and prints each name and what the program prints for that file. The
+// Runs both programs on stored files, named by its arguments, and prints each name and what the programs print for that file. The
 // expected output was written by the reference program.
 use libc::STDOUT_FILENO;
 
-// One file: its name on a line, and what is printed for it.
+// One file: its name on a line, its lines after a step, and its pages.
 fn show(name: &[u8]) {
     let mut file = [0u8; 65537];
     let mut out = [0u8; 200000];
@@ -17,6 +17,8 @@ fn show(name: &[u8]) {
     io::write_all(STDOUT_FILENO, name);
     io::write_all(STDOUT_FILENO, b"\n");
     io::write_all(STDOUT_FILENO, &out[..end]);
+    let pages = output_maps::print(&file[..n], &mut out);
+    io::write_all(STDOUT_FILENO, &out[..pages]);
 }
 
 // The file that argument i names.

@@ -10,6 +10,7 @@ use Rattle.rules.specs.Answers.{Answer, accepted, refused, plain}
 use Rattle.rules.specs.Field.{Kind, workNeeded}
 use Rattle.rules.specs.Calls.{WindCall, Operation, Lent, lent, step, Reply, call, freshReply, freshField, freshWind, windReply, windAfter, reportAfter, WorkAfter, CallGives, StepGives, FreshGives, WindGives}
 use Rattle.rules.specs.FieldFile.{readReply, readField, readWind, writeReply, writeFile, ReadGives, WriteGives}
+use Rattle.rules.specs.Map.{mapReading, mapPage, MapGives}
 
 -- the answer is a
 abbrev is : {A : Type 0} → Answer A → Answer A → Type 0
@@ -45,6 +46,12 @@ module _ (κ : Kind) (g : Shape) (s : ℕ) (field : List ℕ) where
         → (a ≡ b) × ((x ≡ y) × ((r ≡ t) × (drop (workNeeded g) w ≡ drop (workNeeded g) v)))
     step-one a b x y r t w v p q =
         (both (p .0) (q .0), (both (p .1 .0) (q .1 .0), (both (p .1 .1 .0) (q .1 .1 .0), surplus g (call κ g s op field .reply) work w v (p .1 .1 .1) (q .1 .1 .1))))
+
+  map-some : (page : List ℕ) → MapGives κ g s field page (is (mapReading κ g s field page)) (mapPage κ g s field page)
+  map-some page = (refl, refl)
+
+  map-one : (page : List ℕ) (a b : Answer ℕ) (x y : List ℕ) → MapGives κ g s field page (is a) x → MapGives κ g s field page (is b) y → (a ≡ b) × (x ≡ y)
+  map-one page a b x y p q = (both (p .0) (q .0), both (p .1) (q .1))
 
 module _ (κ : Kind) (g : Shape) (field : List ℕ) (wind : List ℤ) where
   fresh-some : FreshGives κ g field wind (is (freshReply κ g field wind)) (freshField κ g field wind) (freshWind κ g field wind)

@@ -11,6 +11,7 @@ pub mod RisingLaws
 pub mod StepLaws
 pub mod CallLaws
 pub mod FieldLaws
+pub mod TextLaws
 pub mod MapLaws
 pub mod GivesLaws
 pub mod StageBounds

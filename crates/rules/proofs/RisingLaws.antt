@@ -1,4 +1,4 @@
--- "Checks run in rising number": so are the checks of every call of document 01. (An import's checks go record by record, by document 02.)
+-- "Checks run in rising number": so are the checks of every call of document 01, and those of a map. (An import's checks go record by record, by document 02.)
 use mathlib.Core.Path.{_≡_, refl}
 use mathlib.Core.Bool.{true}
 use mathlib.Core.List.{List}
@@ -10,6 +10,7 @@ use Rattle.rules.specs.Answers.{rising}
 use Rattle.rules.specs.Field.{Kind}
 use Rattle.rules.specs.Calls.{Operation, load, emission, withdrawal, step, Lent, checks, callChecks, massChecks, totalChecks, freshChecks, windChecks, oneFace}
 use Rattle.rules.specs.FieldFile.{readChecks, writeChecks}
+use Rattle.rules.specs.Map.{mapChecks}
 
 module _ (κ : Kind) (g : Shape) (field : List ℕ) (wind : List ℤ) where
   call-rising : (s : ℕ) (op : Operation Lent) → rising 0 (callChecks κ g s op field) ≡ true
@@ -26,6 +27,10 @@ module _ (κ : Kind) (g : Shape) (field : List ℕ) (wind : List ℤ) where
   total-rising : (s : ℕ) → rising 0 (totalChecks κ g s field) ≡ true
   unfolding rising
   total-rising s = refl
+
+  map-rising : (s : ℕ) (page : List ℕ) → rising 0 (mapChecks κ g s field page) ≡ true
+  unfolding rising
+  map-rising s page = refl
 
   fresh-rising : rising 0 (freshChecks κ g field wind) ≡ true
   unfolding rising

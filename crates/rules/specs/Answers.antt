@@ -27,7 +27,7 @@ abbrev pub check : ℕ → Bool → Check
 check n b = record { number = n; passes = b }
 
 -- "Checks run in rising number": each has a larger number than the one before it, the first than n. So is the list of every call of document 01
--- (`RisingLaws`); an import's goes record by record
+-- and that of a map (`RisingLaws`); an import's goes record by record
 unfoldable pub rising : ℕ → List Check → Bool
 rising n [] = true
 rising n (c ∷ cs) = ltb n (c .number) && rising (c .number) cs

@@ -2,7 +2,7 @@
 use mathlib.Core.Path.{_≡_}
 use mathlib.Core.Bool.{_&&_, cond}
 use mathlib.Core.List.{List, [], _∷_, _++_}
-use Prim.Native.Nat.{ℕ, suc, _+_, _*_, _-_, _/_}
+use Prim.Native.Nat.{ℕ, _+_, _*_, _-_, _/_}
 use lib.Dec.{leb, ltb}
 use lib.ListN.{length}
 use Rattle.whole.specs.Table.{blocks, overwrite}
@@ -53,7 +53,7 @@ module _ (κ : Kind) (g : Shape) (p : List ℕ) where
   -- "Then comes one line per j, northmost first"
   unfoldable pub blockText : ℕ → List ℕ
   unfolding blocks headerLine rowLine
-  blockText b = headerLine g b ++ blocks (g .ny) (λ n. rowLine b (g .ny - suc n))
+  blockText b = headerLine g b ++ blocks (g .ny) (λ n. rowLine b (g .ny - (n + 1)))
 
   -- "After the last block, one line has "sum" and the total"
   unfoldable pub pageText : List ℕ

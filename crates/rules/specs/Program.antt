@@ -1,4 +1,4 @@
--- Document 01, "Field file": what the program prints, as bytes.
+-- Document 01, "Field file", and document 02, 2026-03: what the programs print, as bytes.
 use mathlib.Core.Bool.{cond}
 use mathlib.Core.List.{List, [], _∷_, _++_}
 use Prim.Native.Nat.{ℕ, zero, suc, _*_}
@@ -10,11 +10,12 @@ use Rattle.rules.specs.declared.Shape.{Shape}
 use Rattle.rules.specs.declared.Way.{Way}
 use Rattle.rules.specs.declared.Way.the-variants.{East, North}
 use Rattle.rules.specs.Answers.{Answer, accepted, refused}
-use Rattle.rules.specs.Field.{quadratic, elementLength}
+use Rattle.rules.specs.Field.{quadratic, elementLength, part}
 use Rattle.rules.specs.Grid.{faceIndex}
 use Rattle.rules.specs.Calls.{step, lengthsLent, call, totalReading}
 use Rattle.rules.specs.FieldFile.{readReply, readField, readWind}
 use Rattle.rules.specs.Text.{decimalBy, decimal, signed, space, newline}
+use Rattle.rules.specs.Map.{pageText}
 
 -- ---- lines
 -- the words grid, face, total and refused, each with a space after it
@@ -68,7 +69,7 @@ module _ (g : Shape) (s : ℕ) where
   unfolding faceLines totalLine
   tracerLines report total = faceLines East report ++ (faceLines North report ++ totalLine s total)
 
--- ---- the run: "reads one file from standard input, steps each smoke once in order and prints"
+-- ---- a step of each tracer
 -- what goes on where an answer is accepted
 abbrev pub next : {A B : Type 0} → Answer A → (A → Answer B) → Answer B
 next (accepted x) f = f x
@@ -100,20 +101,51 @@ module _ (g : Shape) (wind : List ℤ) where
   upTo zero field = accepted (record { text = gridLine g; field = field })
   upTo (suc s) field = next (upTo s field) (λ p. next (stepped s (p .field)) (λ q. accepted (record { text = p .text ++ q .text; field = q .field })))
 
--- what is printed in the end: the lines, or the refusal alone
-unfoldable pub textOf : Answer Printed → List ℕ
-unfolding refusedLine
-textOf (accepted p) = p .text
-textOf (refused n) = refusedLine n
+-- ---- what the programs do with a file
+-- "Over 65,536 bytes it prints "refused 3", before any other check.": else what its reading answers. `field` and `wind` are the lent buffers
+unfoldable pub fileReply : List ℕ → List ℕ → List ℤ → Answer Shape
+unfolding readReply
+fileReply file field wind = cond (ltb 65536 (length file)) (refused 3) (readReply quadratic file field wind)
 
--- "Over 65,536 bytes it prints "refused 3", before any other check.": field and wind are the lent buffers
-unfoldable pub printed : List ℕ → List ℕ → List ℤ → List ℕ
-unfolding textOf upTo readReply readField readWind
-printed file field wind = cond (ltb 65536 (length file)) (refusedLine 3)
-    (textOf (next (readReply quadratic file field wind) (λ g. upTo g (readWind quadratic file field wind) (g .tracers) (readField quadratic file field wind))))
+-- what is printed in the end: the text, or the refusal alone
+unfoldable pub textOf : Answer (List ℕ) → List ℕ
+unfolding refusedLine
+textOf (accepted text) = text
+textOf (refused n) = refusedLine n
 
 -- "It lends buffers for exactly 128 elements and eight smokes, so a larger grid gets 4": ten numbers an element and two winds, all
 -- zero. Check 4 of file reading sees a larger grid by its winds
+unfoldable pub fieldLent : List ℕ
+unfolding elementLength
+fieldLent = replicate (8 * (128 * elementLength quadratic)) 0
+
+abbrev pub windLent : List ℤ
+windLent = replicate (2 * 128) (pos 0)
+
+-- what a program prints that makes a text of a shape, a field and a wind
+module _ (made : Shape → List ℕ → List ℤ → Answer (List ℕ)) where
+  unfoldable pub printed : List ℕ → List ℕ → List ℤ → List ℕ
+  unfolding fileReply textOf readField readWind
+  printed file field wind = textOf (next (fileReply file field wind) (λ g. made g (readField quadratic file field wind) (readWind quadratic file field wind)))
+
+  unfoldable pub printedFor : List ℕ → List ℕ
+  unfolding printed fieldLent
+  printedFor file = printed file fieldLent windLent
+
+-- "steps each smoke once in order and prints"
+unfoldable pub steps : Shape → List ℕ → List ℤ → Answer (List ℕ)
+unfolding upTo
+steps g field wind = next (upTo g wind (g .tracers) field) (λ p. accepted (p .text))
+
 unfoldable pub output : List ℕ → List ℕ
-unfolding printed elementLength
-output file = printed file (replicate (8 * (128 * elementLength quadratic)) 0) (replicate (2 * 128) (pos 0))
+unfolding printedFor steps
+output file = printedFor steps file
+
+-- document 02, 2026-03: "each smoke on paper", in order. A field that was read is sound, so that no map of it is refused
+unfoldable pub pages : Shape → List ℕ → List ℤ → Answer (List ℕ)
+unfolding blocks pageText part
+pages g field wind = accepted (blocks (g .tracers) (λ s. pageText quadratic g (part quadratic g s field)))
+
+unfoldable pub mapOutput : List ℕ → List ℕ
+unfolding printedFor pages
+mapOutput file = printedFor pages file

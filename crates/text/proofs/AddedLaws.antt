@@ -5,11 +5,11 @@ use Prim.Native.Nat.{ℕ, _+_, _*_, _-_, _≤_, _<_}
 use native.Mathlib.Nat.{le-trans, suc-mul, mul-one, zero-sub}
 use native.Mathlib.Numerals.{add-one}
 use native.Mathlib.Omega.{arith}
-use lib.ListN.{length, getD, set, take, drop, length-append, length-replicate, take-append-drop}
+use lib.ListN.{length, getD, set, take, drop, length-append, take-append-drop}
 use lib.Seq.{drop-drop, length-take-le, take-at, drop-at, set-split, ext-getD}
 use Rattle.whole.specs.Table.{blocks, overwrite}
 use Rattle.whole.proofs.TableLaws.{blocks-more, length-blocks, getD-blocks, table-blocks}
-use Rattle.whole.proofs.OverwriteLaws.{length-overwrite, part-room, table-const}
+use Rattle.whole.proofs.OverwriteLaws.{length-overwrite, part-room, front-is, table-const}
 use Rattle.whole.proofs.ListParts.{overwrite-next}
 use Rattle.rules.specs.Text.{space, blanks, rightAligned}
 use Rattle.text.specs.Added.{Added}
@@ -96,11 +96,18 @@ pub aligned-added : {at e f : ℕ} {old mid new : List ℕ} (width m : ℕ) (wor
 unfolding rightAligned
 aligned-added width m word h p q = let all = same-bytes (ap (λ k. blanks k ++ word) h) (then p q) in record { same = all .same; ends = all .ends; few = omega arith; fits = all .fits }
 
-pub aligned-length : (width : ℕ) (word : List ℕ) → length (rightAligned width word) ≡ width - length word + length word
-unfolding rightAligned
-aligned-length width word = length-append (blanks (width - length word)) word ∙ ap (λ k. k + length word) (length-replicate (width - length word) 32)
-
 -- in no width a word stands as it is
 pub unaligned : (word : List ℕ) → rightAligned 0 word ≡ word
 unfolding rightAligned
 unaligned word = ap (λ k. blanks k ++ word) (zero-sub (length word))
+
+-- bytes that were added at the front are the buffer's front
+module _ {n end : ℕ} {bytes old new : List ℕ} (a : Added n 0 bytes old new end) where
+  pub front-added : take end new ≡ bytes
+  front-added = ap (take end) (a .same ∙ front-is bytes old) ∙ take-at bytes (drop (length bytes) old) end (sym (omega (arith, a .ends)))
+
+  pub end-le : end ≤ length old
+  end-le = omega (arith, a .ends, a .fits)
+
+  pub end-within : end ≤ length new
+  end-within = omega (arith, end-le, added-length a)

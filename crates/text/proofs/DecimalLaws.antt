@@ -47,12 +47,6 @@ decimal-is (suc p) n h f =
     let large : 0 < p → 10 ^ p ≤ n = λ l. simp unary-clauses at (f .2 (omega arith)) in
     digits-are p 19 n (at-most-20 p n h large) (f .1) large
 
-pub decimal-few : (more n : ℕ) → length (decimalBy more n) ≤ more + 1
-unfolding decimalBy
-decimal-few zero n = omega arith
-decimal-few (suc more) n = cond-ind (ltb n 10) ((48 + n) ∷ []) (decimalBy more (n / 10) ++ ((48 + n % 10) ∷ [])) (λ l. length l ≤ suc more + 1) (λ _. omega arith)
-    (λ _. omega (arith, length-append (decimalBy more (n / 10)) ((48 + n % 10) ∷ []), decimal-few more (n / 10)))
-
 -- ---- the sign
 pub signed-below : (z : ℤ) → ltZ z (pos 0) ≡ true → (45 ∷ []) ++ decimalBy 19 (natAbs z) ≡ signed z
 unfolding signed

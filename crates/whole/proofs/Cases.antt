@@ -43,3 +43,11 @@ ne→neqb a b h = either (eqb a b) (λ t. absurd (h (eqb→eq a b t))) (λ t. t)
 pub both-yes : (a b : Bool) → T (a && b) → T a × T b
 both-yes true b t = (tt, t)
 both-yes false b t = absurd t
+
+pub and-true : (b : Bool) → (b && true) ≡ b
+and-true true = refl
+and-true false = refl
+
+pub and-false : (b : Bool) → (b && false) ≡ false
+and-false true = refl
+and-false false = refl

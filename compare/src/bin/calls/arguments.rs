@@ -26,10 +26,10 @@ pub fn surplus(rng: &mut Rng) -> usize {
     }
 }
 
-/// Any operation, steps most often; numbers, records and files that it takes are laid in the buffers.
+/// Any operation, steps most often; numbers, records, files and pages that it takes are laid in the buffers.
 pub fn operation(rng: &mut Rng, b: &mut Buffers, shape: Shape) -> Operation {
     let at = place(rng, shape);
-    match rng.below(110) {
+    match rng.below(120) {
         0..=1 => Operation::Fresh,
         2..=14 => Operation::Wind(face(rng, shape), rng.wind()),
         15..=24 => {
@@ -46,6 +46,10 @@ pub fn operation(rng: &mut Rng, b: &mut Buffers, shape: Shape) -> Operation {
         87..=90 => Operation::Mass(at),
         91..=93 => Operation::Total(at.smoke),
         94..=103 => {
+            lay_page(rng, b, shape);
+            Operation::Map(at.smoke)
+        }
+        104..=113 => {
             lay_file(rng, b, shape);
             Operation::Read
         }
@@ -127,6 +131,12 @@ fn lay_numbers(rng: &mut Rng, b: &mut Buffers, shape: Shape) {
         numbers.push(rng.draw() as u32);
     }
     b.numbers = Buffer::new(&numbers, u32::MAX);
+}
+
+/// Room for a page, of any content.
+fn lay_page(rng: &mut Rng, b: &mut Buffers, shape: Shape) {
+    let count = shape.page_len() + surplus(rng);
+    b.page = Buffer::new(&files::bytes(rng, count), 0x3C);
 }
 
 /// A file: of the field as it is, of another field, or of another shape.

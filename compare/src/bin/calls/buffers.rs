@@ -81,6 +81,8 @@ pub struct Buffers {
     pub work: Buffer<i64>,
     /// A load's numbers.
     pub numbers: Buffer<u32>,
+    /// What a map writes.
+    pub page: Buffer<u8>,
     /// What a wind import reads.
     pub records: Buffer<u8>,
     /// What file reading reads.
@@ -97,6 +99,7 @@ impl Buffers {
             report: Buffer::new(&[], 0),
             work: Buffer::new(&[], 0),
             numbers: Buffer::new(&[], 0),
+            page: Buffer::new(&[], 0),
             records: Buffer::new(&[], 0),
             file: Buffer::new(&[], 0),
             out: Buffer::new(&[], 0),
@@ -109,6 +112,7 @@ impl Buffers {
         self.report.copy_from(&other.report);
         self.work.copy_from(&other.work);
         self.numbers.copy_from(&other.numbers);
+        self.page.copy_from(&other.page);
         self.records.copy_from(&other.records);
         self.file.copy_from(&other.file);
         self.out.copy_from(&other.out);
@@ -121,6 +125,7 @@ impl Buffers {
             .or_else(|| self.report.difference("report", &other.report))
             .or_else(|| self.work.difference("work", &other.work))
             .or_else(|| self.numbers.difference("numbers", &other.numbers))
+            .or_else(|| self.page.difference("page", &other.page))
             .or_else(|| self.records.difference("records", &other.records))
             .or_else(|| self.file.difference("file", &other.file))
             .or_else(|| self.out.difference("out", &other.out))
@@ -129,12 +134,13 @@ impl Buffers {
     /// How many numbers of each buffer are lent.
     pub fn lengths(&self) -> String {
         format!(
-            "field {}, wind {}, report {}, work {}, numbers {}, records {}, file {}, out {}",
+            "field {}, wind {}, report {}, work {}, numbers {}, page {}, records {}, file {}, out {}",
             self.field.lent().len(),
             self.wind.lent().len(),
             self.report.lent().len(),
             self.work.lent().len(),
             self.numbers.lent().len(),
+            self.page.lent().len(),
             self.records.lent().len(),
             self.file.lent().len(),
             self.out.lent().len()

@@ -1,4 +1,4 @@
-//! A call with its arguments, the eleven calls as one trait, and what an answer says.
+//! A call with its arguments, the twelve calls as one trait, and what an answer says.
 
 use crate::buffers::Buffers;
 
@@ -37,6 +37,7 @@ pub enum Operation {
     Step(usize),
     Mass(Place),
     Total(usize),
+    Map(usize),
     Read,
     Write,
 }
@@ -48,7 +49,7 @@ pub struct Call {
     pub operation: Operation,
 }
 
-/// The eleven calls as C sees them. A u8 is 0 or the refusal's number; an i64 is the number answered or the refusal's negated.
+/// The twelve calls as C sees them. A u8 is 0 or the refusal's number; an i64 is the number answered or the refusal's negated.
 pub trait Calls {
     fn fresh(&self, field: &mut [u32], wind: &mut [i16], g: Grid) -> u8;
     fn wind(&self, wind: &mut [i16], g: Grid, face: Face, c: i16) -> u8;
@@ -67,6 +68,7 @@ pub trait Calls {
     ) -> u8;
     fn mass(&self, field: &[u32], g: Grid, at: Place) -> i64;
     fn total(&self, field: &[u32], g: Grid, smoke: usize) -> i64;
+    fn map(&self, page: &mut [u8], field: &[u32], g: Grid, smoke: usize) -> i64;
     fn read(&self, field: &mut [u32], wind: &mut [i16], file: &[u8]) -> i64;
     fn write(&self, file: &mut [u8], field: &[u32], wind: &[i16], g: Grid) -> i64;
 }
@@ -89,13 +91,14 @@ pub fn make(side: &impl Calls, call: &Call, b: &mut Buffers) -> i64 {
         }
         Operation::Mass(at) => side.mass(field, g, at),
         Operation::Total(smoke) => side.total(field, g, smoke),
+        Operation::Map(smoke) => side.map(b.page.lent_mut(), field, g, smoke),
         Operation::Read => side.read(field, wind, b.file.lent()),
         Operation::Write => side.write(b.out.lent_mut(), field, wind, g),
     }
 }
 
 /// The names of the calls, in the order of `Call::kind`.
-pub const KINDS: [&str; 11] = [
+pub const KINDS: [&str; 12] = [
     "fresh",
     "wind",
     "import",
@@ -105,6 +108,7 @@ pub const KINDS: [&str; 11] = [
     "step",
     "mass",
     "total",
+    "map",
     "read",
     "write",
 ];
@@ -121,8 +125,9 @@ impl Call {
             Operation::Step(_) => 6,
             Operation::Mass(_) => 7,
             Operation::Total(_) => 8,
-            Operation::Read => 9,
-            Operation::Write => 10,
+            Operation::Map(_) => 9,
+            Operation::Read => 10,
+            Operation::Write => 11,
         }
     }
 

@@ -1,5 +1,5 @@
 //! What the accepted steps met: smoke over a face, stage values below zero, cut amounts, and these together on one face. And what the
-//! accepted imports did.
+//! accepted imports and maps did.
 
 use crate::buffers::Buffers;
 use crate::call::{Call, Operation};
@@ -8,7 +8,7 @@ use reference::checks::{element_mass, smoke_part};
 use reference::closing::{floor_div, Nodes};
 use reference::flux::{corrected, donor, face_amounts, face_elements};
 use reference::rng::Rng;
-use reference::shape::{NODES, PER_ELEMENT};
+use reference::shape::{NODES, PAGE_COLUMNS, PER_ELEMENT};
 use reference::tendency::{tendencies, Winds};
 use reference::Shape;
 
@@ -32,6 +32,10 @@ pub struct Coverage {
     new_winds: u64,
     surplus: u64,
     large_imports: u64,
+    maps: u64,
+    whole_blocks: u64,
+    blank_columns: u64,
+    large_maps: u64,
     pub read_back: u64,
     pub written_again: u64,
 }
@@ -47,6 +51,7 @@ impl Coverage {
         match call.operation {
             Operation::Step(smoke) => self.step(rng, shape, smoke, before, after),
             Operation::Import => self.import(shape, before, after),
+            Operation::Map(_) => self.map(shape),
             _ => {}
         }
     }
@@ -56,6 +61,14 @@ impl Coverage {
         self.new_winds += u64::from(before.wind.lent() != after.wind.lent());
         self.surplus += u64::from(after.wind.lent().len() > shape.wind_len());
         self.large_imports += u64::from(shape.elements() >= LARGE);
+    }
+
+    fn map(&mut self, shape: Shape) {
+        let whole = shape.nx % PAGE_COLUMNS == 0;
+        self.maps += 1;
+        self.whole_blocks += u64::from(whole);
+        self.blank_columns += u64::from(!whole && shape.nx > PAGE_COLUMNS);
+        self.large_maps += u64::from(shape.elements() >= LARGE);
     }
 
     /// Looks at a step, once in four into its stages.
@@ -96,6 +109,10 @@ impl Coverage {
         println!(
             "{} imports accepted, {} that changed the wind, {} with surplus behind it, {} on {LARGE} elements or more",
             self.imports, self.new_winds, self.surplus, self.large_imports
+        );
+        println!(
+            "{} maps accepted, {} of whole blocks, {} of several blocks with columns missing in the last, {} on {LARGE} elements or more",
+            self.maps, self.whole_blocks, self.blank_columns, self.large_maps
         );
         println!(
             "{} written files read back, {} read files written again",

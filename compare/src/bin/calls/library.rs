@@ -13,6 +13,7 @@ extern "C" {
     fn plume_step(field: *mut u32, field_count: usize, wind: *const i16, wind_count: usize, report: *mut i32, report_count: usize, work: *mut i64, work_count: usize, nx: usize, ny: usize, smokes: usize, smoke: usize) -> u8;
     fn plume_mass(field: *const u32, field_count: usize, nx: usize, ny: usize, smokes: usize, smoke: usize, i: usize, j: usize) -> i64;
     fn plume_total(field: *const u32, field_count: usize, nx: usize, ny: usize, smokes: usize, smoke: usize) -> i64;
+    fn plume_map(page: *mut u8, page_count: usize, field: *const u32, field_count: usize, nx: usize, ny: usize, smokes: usize, smoke: usize) -> i64;
     fn plume_read(field: *mut u32, field_count: usize, wind: *mut i16, wind_count: usize, file: *const u8, file_count: usize) -> i64;
     fn plume_write(file: *mut u8, file_count: usize, field: *const u32, field_count: usize, wind: *const i16, wind_count: usize, nx: usize, ny: usize, smokes: usize) -> i64;
 }
@@ -60,6 +61,10 @@ impl Calls for Library {
 
     fn total(&self, field: &[u32], g: Grid, smoke: usize) -> i64 {
         unsafe { plume_total(field.as_ptr(), field.len(), g.nx, g.ny, g.smokes, smoke) }
+    }
+
+    fn map(&self, page: &mut [u8], field: &[u32], g: Grid, smoke: usize) -> i64 {
+        unsafe { plume_map(page.as_mut_ptr(), page.len(), field.as_ptr(), field.len(), g.nx, g.ny, g.smokes, smoke) }
     }
 
     fn read(&self, field: &mut [u32], wind: &mut [i16], file: &[u8]) -> i64 {

@@ -178,6 +178,7 @@ fn lend(rng: &mut Rng, b: &mut Buffers, shape: Shape) {
     b.work.lend(count(shape.work_len()));
     b.numbers.lend(count(shape.load_len()));
     b.out.lend(count(shape.file_len()));
+    b.page.lend(count(shape.page_len()));
     // the length of these two is part of what they say
     b.records.lend(usize::MAX);
     b.file.lend(usize::MAX);

@@ -9,6 +9,7 @@ mod coverage;
 mod library;
 mod list;
 mod other;
+mod pages;
 mod records;
 mod table;
 mod wild;
@@ -29,6 +30,8 @@ use table::Table;
 struct Run {
     table: Table,
     coverage: Coverage,
+    /// How many pages at the edges were equal.
+    pages: u64,
     /// Whether each call is printed before it is made: a library that crashes says nothing itself.
     trace: bool,
 }
@@ -50,6 +53,22 @@ impl Run {
             self.coverage.written_again += u64::from(expected == Expected::SameFile);
         }
         list.after(rng, &call, answer, &mut c.ours);
+        Ok(())
+    }
+
+    /// The pages at the edges, each in a buffer of just its length.
+    fn pages(&mut self) -> Result<(), String> {
+        let mut c = Comparison::new();
+        for (nx, ny) in pages::SHAPES {
+            for element in pages::elements(nx, ny) {
+                let call = pages::full_element(&mut c.ours, nx, ny, element);
+                let answer = c.run(&Library, &Other, &call, Expected::Nothing);
+                let length =
+                    answer.map_err(|what| format!("DIFFERENCE, page {nx} by {ny}: {what}"))?;
+                pages::check(&c.ours, length)?;
+                self.pages += 1;
+            }
+        }
         Ok(())
     }
 
@@ -98,7 +117,8 @@ fn main() -> ExitCode {
         ..Run::default()
     };
     let start = Instant::now();
-    let ended = run.lists(count, seed);
+    let ended = run.pages().and_then(|()| run.lists(count, seed));
+    println!("{} pages at the edges equal", run.pages);
     run.table.print();
     run.coverage.print();
     if let Err(what) = ended {

@@ -78,6 +78,10 @@ impl Calls for Other {
         number(reference::total(field, g.nx, g.ny, g.smokes, smoke))
     }
 
+    fn map(&self, page: &mut [u8], field: &[u32], g: Grid, smoke: usize) -> i64 {
+        number(reference::map(page, field, g.nx, g.ny, g.smokes, smoke))
+    }
+
     fn read(&self, field: &mut [u32], wind: &mut [i16], file: &[u8]) -> i64 {
         let shape = reference::read_file(file, field, wind);
         number(shape.map(|s| (s.nx + 256 * s.ny + 65_536 * s.k) as u64))

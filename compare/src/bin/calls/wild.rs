@@ -84,6 +84,7 @@ fn lend_short(rng: &mut Rng, call: &Call, b: &mut Buffers, shape: Shape) {
         (Operation::Step(_), 0) => b.report.lend(short(rng, shape.wind_len())),
         (Operation::Step(_), 1) => b.work.lend(short(rng, shape.work_len())),
         (Operation::Write, 0 | 1) => b.out.lend(short(rng, shape.file_len())),
+        (Operation::Map(_), 0 | 1) => b.page.lend(short(rng, shape.page_len())),
         (Operation::Read, 0) => b.file.lend(rng.index(b.file.room() + 1)),
         (Operation::Fresh | Operation::Step(_) | Operation::Write | Operation::Read, 2) => {
             lend_wind(rng, b)
@@ -107,7 +108,10 @@ fn spoil_stored_wind(rng: &mut Rng, b: &mut Buffers, shape: Shape) {
 fn named_smoke(rng: &mut Rng, call: &Call, shape: Shape) -> usize {
     let named = match call.operation {
         Operation::Emission(at, _) | Operation::Withdrawal(at, _) | Operation::Mass(at) => at.smoke,
-        Operation::Load(smoke) | Operation::Step(smoke) | Operation::Total(smoke) => smoke,
+        Operation::Load(smoke)
+        | Operation::Step(smoke)
+        | Operation::Total(smoke)
+        | Operation::Map(smoke) => smoke,
         _ => usize::MAX,
     };
     match named < shape.k && !rng.once_in(3) {
@@ -159,7 +163,9 @@ fn spoil_arguments(rng: &mut Rng, call: &mut Call, b: &mut Buffers, shape: Shape
             _ => *q = over_held(rng, mass_of(b, shape, *at)),
         },
         Operation::Mass(at) => spoil_place(rng, shape, at),
-        Operation::Step(smoke) | Operation::Total(smoke) => *smoke = beyond(rng, shape.k),
+        Operation::Step(smoke) | Operation::Total(smoke) | Operation::Map(smoke) => {
+            *smoke = beyond(rng, shape.k)
+        }
         Operation::Read => spoil_file(rng, b),
         Operation::Write => match rng.once_in(2) {
             true => spoil_stored_wind(rng, b, shape),

@@ -1,12 +1,12 @@
-//! Damaged and random files through the program, compared with the reference program's output byte for byte.
-//! Usage: hostile PROGRAM SAMPLES [COUNT [SEED]]
+//! Damaged and random files through a program, compared with the reference program's output byte for byte.
+//! Usage: hostile PROGRAM lines|pages SAMPLES [COUNT [SEED]]
 
 mod inputs;
 mod process;
 
 use inputs::Inputs;
 use process::{Program, Ran};
-use reference::program::output;
+use reference::{map_program, program};
 use std::fs;
 use std::path::{Path, PathBuf};
 use std::process::ExitCode;
@@ -22,8 +22,25 @@ const ENOUGH: u64 = 10_000;
 /// How often progress is told.
 const PROGRESS: Duration = Duration::from_secs(10);
 
+/// What a program prints: the reference's output, and the ending of a sample's stored one.
+#[derive(Clone, Copy)]
+struct Prints {
+    output: fn(&[u8]) -> String,
+    stored: &'static str,
+}
+
+fn prints(word: &str) -> Option<Prints> {
+    let (output, stored): (fn(&[u8]) -> String, _) = match word {
+        "lines" => (program::output, "txt"),
+        "pages" => (map_program::output, "pages.txt"),
+        _ => return None,
+    };
+    Some(Prints { output, stored })
+}
+
 struct Hostile {
     program: Program,
+    prints: Prints,
     inputs: Inputs,
     runs: u64,
     /// Accepted files, and refused ones by number.
@@ -59,7 +76,7 @@ impl Hostile {
         let pieces = self.inputs.pieces();
         let ran = self.program.run(file, pieces);
         let ran = ran.map_err(|error| format!("the program can't be run: {error}"))?;
-        let right = output(file);
+        let right = (self.prints.output)(file);
         let wrong = fault(&ran).or_else(|| {
             let printed = String::from_utf8_lossy(&ran.output);
             let (a, b) = first_difference(&printed, &right);
@@ -81,9 +98,9 @@ impl Hostile {
     /// A sample: its stored output, every truncation from both ends, and every flipped bit where it is short.
     fn sample(&mut self, samples: &Path, name: &str) -> Result<(), String> {
         let file = read(&samples.join(format!("{name}.plume")))?;
-        let stored = read(&samples.join(format!("{name}.txt")))?;
-        if output(&file).as_bytes() != stored {
-            return Err(format!("{name}.txt is not what the reference prints"));
+        let stored = format!("{name}.{}", self.prints.stored);
+        if (self.prints.output)(&file).as_bytes() != read(&samples.join(&stored))? {
+            return Err(format!("{stored} is not what the reference prints"));
         }
         self.run(&file, name)?;
         for n in 0..file.len() {
@@ -148,28 +165,31 @@ fn all(hostile: &mut Hostile, samples: &Path, count: u64, seed: u64) -> Result<(
     }
 }
 
-/// PROGRAM, SAMPLES, COUNT and SEED, where the words are that.
-fn arguments() -> Option<(PathBuf, PathBuf, u64, u64)> {
+/// PROGRAM, what it prints, SAMPLES, COUNT and SEED, where the words are that.
+fn arguments() -> Option<(PathBuf, Prints, PathBuf, u64, u64)> {
     let mut words = std::env::args().skip(1);
-    let (program, samples) = (words.next()?, words.next()?);
+    let program = words.next()?;
+    let prints = prints(&words.next()?)?;
+    let samples = words.next()?;
     let mut number = |otherwise: u64| match words.next() {
         Some(word) => word.parse().ok(),
         None => Some(otherwise),
     };
     let (count, seed) = (number(100_000)?, number(1)?);
-    Some((program.into(), samples.into(), count, seed))
+    Some((program.into(), prints, samples.into(), count, seed))
 }
 
 fn main() -> ExitCode {
-    let (program, samples, count, seed) = match arguments() {
+    let (program, prints, samples, count, seed) = match arguments() {
         Some(given) => given,
         None => {
-            eprintln!("usage: hostile PROGRAM SAMPLES [COUNT [SEED]]");
+            eprintln!("usage: hostile PROGRAM lines|pages SAMPLES [COUNT [SEED]]");
             return ExitCode::from(2);
         }
     };
     let mut hostile = Hostile {
         program: Program::new(&program).expect("temporary files can be made"),
+        prints,
         inputs: Inputs::new(seed),
         runs: 0,
         met: [0; 7],

@@ -1,13 +1,12 @@
-use mathlib.Core.Path.{sym, _∙_}
+use mathlib.Core.Path.{sym}
 use Prim.Native.Nat.{_≤_}
-use native.Mathlib.Nat.{zero-add}
 use native.Mathlib.Omega.{arith}
 use lib.ListN.{length}
 use lib.Seq.{length-take-le}
-use Rattle.rules.specs.Program.{output}
+use Rattle.rules.specs.Program.{fieldLent, printedFor, output}
 use Rattle.rules.specs.Field.{elementLength, quadratic}
 use Rattle.text.proofs.AddedLaws.{same-bytes}
-use Rattle.output.proofs.TextLaws.{end-within}
+use Rattle.program_file.proofs.PrintedLaws.{text-given}
 use borrow.Author.Needs.{needs}
 use Rattle.output.proofs.print.Statement.{statement}
 use Rattle.output.proofs.print.Tie as tie
@@ -27,11 +26,9 @@ put-requires : tie.Need-put-requires
 put-requires c κs = omega (arith, length-take-le (fill-from-buffer3 c .fill .result) (fill-from-buffer3 c .fill .last .1 .0) (count c), fill-from-buffer3 c .fill .ensures .0, c .before .before .before .before .before .before .before .before .before .before .before .before .before .before .before .pre)
 
 returns : tie.Need-returns
-unfolding output elementLength quadratic
+unfolding output printedFor fieldLent elementLength quadratic
 returns c =
-    let a = same-bytes (c .before .before .before .before .before .before .before .before .before .before .fill .ensures .1) (c .before .before .put .ensures) in
-    let few = end-within a in
-    (a .ends ∙ zero-add _, ((few, sym (length-take-le _ _ few)), a .same))
+    text-given (same-bytes (c .before .before .before .before .before .before .before .before .before .before .fill .ensures .1) (c .before .before .put .ensures))
 
 pub print-spec : {M : Type 1} → statement M
 print-spec =

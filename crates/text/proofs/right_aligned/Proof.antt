@@ -5,7 +5,8 @@ use borrow.Author.Needs.{needs}
 use native.Mathlib.Omega.{arith}
 use lib.ListN.{length, take}
 use Rattle.rules.specs.Text.{decimalBy}
-use Rattle.text.proofs.AddedLaws.{added-length, word-is, aligned-added, aligned-length}
+use Rattle.rules.proofs.TextLaws.{aligned-length}
+use Rattle.text.proofs.AddedLaws.{added-length, word-is, aligned-added}
 use Rattle.text.proofs.DecimalLaws.{decimal-is}
 use Rattle.text.proofs.right_aligned.Statement.{statement}
 use Rattle.text.proofs.right_aligned.Tie as tie

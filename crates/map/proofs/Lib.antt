@@ -1,0 +1,2 @@
+-- The map's checks.
+pub mod CheckLaws

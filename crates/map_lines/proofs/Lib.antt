@@ -1,0 +1,2 @@
+-- Laws of a page's numbers and columns.
+pub mod PageLaws

@@ -1,0 +1,2 @@
+-- A field that was read.
+pub mod SoundField

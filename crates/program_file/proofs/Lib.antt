@@ -1,0 +1,2 @@
+-- Laws of what a program prints for a file.
+pub mod PrintedLaws

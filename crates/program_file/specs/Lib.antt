@@ -1,0 +1,2 @@
+-- What the reading of a program's file gives.
+pub mod FileTaken
