@@ -92,9 +92,9 @@ int64_t plume_total(const uint32_t *field, size_t field_count, size_t nx, size_t
                     size_t smoke);
 
 /* Prints a smoke's map into page, and answers how many bytes. Seven columns of elements make a block, the westmost first; the last may
- * have fewer. A block's first line has the columns' numbers i, each right-aligned in ten after three blanks. Then each row j from the
- * north on has j right-aligned in three and what its elements hold, each in ten; where the grid has no column are blanks. The last line
- * has "sum" and the total right-aligned in 70. Refusals 2 4 6 7, negated. */
+ * have fewer. A block's first line has three blanks, then its columns' numbers i, each right-aligned in ten. Then each row j from the
+ * north on has j right-aligned in three and what its elements hold, each in ten. In every line blanks stand where the grid has no
+ * column. The page's last line has "sum" and the total right-aligned in 70. Refusals 2 4 6 7, negated. */
 int64_t plume_map(uint8_t *page, size_t page_count, const uint32_t *field, size_t field_count,
                   size_t nx, size_t ny, size_t smokes, size_t smoke);
 

@@ -39,9 +39,9 @@ pub fn element_mass(field: &[u32], shape: Shape, tracer: usize, i: usize, j: usi
     requires { ⌜ fieldLength quadratic shape ≤ length (now field) ⌝ }
     ensures { λ r. ⌜ r ≡ mass quadratic (part quadratic shape tracer (now (field .entry))) (element shape i j) ⌝ }
 {
-    let start = field_layout::element_start(shape, tracer, i, j);
-    let end = start + NUMBERS;
-    field_elements::element::mass(&field[start..end])
+    let at = field_layout::element_start(shape, tracer, i, j);
+    let end = at + NUMBERS;
+    field_elements::element::mass(&field[at..end])
 }
 
 // An element's mass.

@@ -1,18 +1,18 @@
 -- The map's checks, by the code's tests and the reading of the tracer's total; and what an answer leaves in the page.
 use mathlib.Core.Path.{_≡_, sym, _∙_}
-use mathlib.Core.Bool.{true, false, _&&_}
-use mathlib.Core.List.{List, [], _∷_}
+use mathlib.Core.Bool.{true, false}
+use mathlib.Core.List.{List, []}
 use Prim.Native.Nat.{ℕ, _≤_, _<_}
 use borrow.Author.Tests.{lt-leb, le-leb}
-use lib.Dec.{leb, ltb}
+use lib.Dec.{leb}
 use lib.ListN.{length}
 use Rattle.whole.specs.Table.{overwrite}
 use Rattle.whole.proofs.Cases.{and-true, and-false}
 use Rattle.rules.specs.declared.Shape.{Shape}
-use Rattle.rules.specs.Answers.{accepted, refused, check, answer}
+use Rattle.rules.specs.Answers.{accepted, refused, answer}
 use Rattle.rules.specs.Field.{quadratic, admitted, fieldLength, part}
-use Rattle.rules.specs.Calls.{soundIfThere, totalReading, totalChecks}
-use Rattle.rules.specs.Map.{pageText, pageLength, mapChecks, mapReading, mapPage}
+use Rattle.rules.specs.Calls.{totalReading, totalChecks}
+use Rattle.rules.specs.Map.{pageText, pageLength, mapReading, mapPage}
 use Rattle.rules.proofs.AnswerLaws.{after-refused, after-accepted}
 use Rattle.field.proofs.CheckLaws.{first-refused, first-accepted}
 

@@ -8,7 +8,7 @@ use Rattle.rules.specs.Text.{decimal, blanks, rightAligned}
 use Rattle.map_lines.specs.declared.BlockLine.{BlockLine}
 use Rattle.map_lines.specs.declared.BlockLine.the-variants.{Header, Row}
 
--- a tracer that is there, whose every number has its width on a page
+-- a tracer that is there, in a field that has room, with a total of at most the limit: every number of its page fits its width
 pub record Printable (g : Shape) (s : ℕ) (field : List ℕ) : Type 0 where
   pub admits : Admitted g
   pub tracer : s < g .tracers

@@ -1,5 +1,5 @@
-// The page of a map, as bytes in a buffer: its blocks, and the line of the sum. Each function is a leaf, asks for room and for a tracer
-// that can be printed, and answers where its bytes end. `page` and `page_length` are what the call uses.
+// The page of a map, as bytes in a buffer: its blocks, and the line of the sum. Each function is a leaf, for an admitted shape; those that
+// add bytes ask for room and for a tracer that can be printed, and answer where the bytes end. `page` and `page_length` are what the call uses.
 ghost use mathlib.Core.Path.{_≡_};
 ghost use Prim.Native.Nat.{_+_, _*_, _≤_, _<_};
 ghost use lib.ListN.{length};
@@ -20,7 +20,7 @@ const WIDTH: usize = 10;
 
 const FIRST: usize = 3;
 
-const LINE: usize = 74;
+const LINE: usize = FIRST + COLUMNS * WIDTH + 1;
 
 // A line of a block: its first one, or that of row j.
 pub(crate) enum BlockLine {

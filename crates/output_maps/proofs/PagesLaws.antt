@@ -1,7 +1,7 @@
 -- The pages of a field that was read: no map of it is refused, each is added behind the one before, and there is room for all.
-use mathlib.Core.Path.{_≡_, sym, ap, subst, _∙_}
+use mathlib.Core.Path.{_≡_, sym, subst, _∙_}
 use mathlib.Core.Bool.{Bool, true, false}
-use mathlib.Core.List.{List, [], _∷_, _++_}
+use mathlib.Core.List.{List, _++_}
 use Prim.Native.Nat.{ℕ, _+_, _*_, _-_, _≤_, _<_}
 use native.Mathlib.Nat.{mul-add, mul-assoc, mul-le-mul, mul-le-mul-right}
 use native.Mathlib.Decide.{decLt}
@@ -10,14 +10,13 @@ use lib.Dec.{T, leb, ltb, le→leb, lt→ltb}
 use lib.IntN.{ℤ}
 use lib.ListN.{length, take, drop, length-drop}
 use lib.Seq.{length-take-le}
-use Rattle.whole.specs.Table.{overwrite}
 use Rattle.whole.proofs.SumLaws.{all-at}
 use Rattle.whole.proofs.ListParts.{part-written}
 use Rattle.rules.specs.declared.Shape.{Shape}
 use Rattle.rules.specs.Answers.{accepted, refused}
 use Rattle.rules.specs.Field.{quadratic, admitted, elements, faces, fieldLength, part, sound}
 use Rattle.rules.specs.Calls.{soundIfThere}
-use Rattle.rules.specs.FieldFile.{fieldSound, readReply, readField}
+use Rattle.rules.specs.FieldFile.{fieldSound, readField}
 use Rattle.rules.specs.Map.{blockCount, pageText, pageLength, mapChecks, mapReading, mapPage}
 use Rattle.rules.proofs.AnswerLaws.{passed-accepts}
 use Rattle.rules.proofs.FieldLaws.{total-small}

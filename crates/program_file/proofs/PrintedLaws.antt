@@ -11,48 +11,51 @@ use lib.IntN.{ℤ}
 use lib.ListN.{length}
 use lib.Seq.{length-take-le}
 use Rattle.rules.specs.declared.Shape.{Shape}
-use Rattle.rules.specs.Answers.{Answer, accepted, refused}
+use Rattle.rules.specs.Answers.{Answer, accepted, refused, after}
 use Rattle.rules.specs.Field.{quadratic}
 use Rattle.rules.specs.FieldFile.{readReply, readField, readWind}
 use Rattle.rules.specs.Program.{refusedLine, next, fileReply, textOf, printed}
+use Rattle.rules.proofs.AnswerLaws.{after-accepted}
 use Rattle.io.specs.Counts.{Counts}
 use Rattle.whole.specs.Table.{overwrite}
 use Rattle.text.specs.Added.{Added}
 use Rattle.text.proofs.AddedLaws.{end-within}
 use Rattle.program_file.specs.FileTaken.{takenField, takenWind}
 
+-- a buffer that a call leaves is left by the same call's answer
+after-twice : {A B : Type 0} (a : Answer A) (new old : B) → after a new old ≡ after a (after a new old) old
+unfolding after
+after-twice (accepted x) new old = refl
+after-twice (refused n) new old = refl
+
 module _ (file field : List ℕ) (wind : List ℤ) where
   -- "Over 65,536 bytes"
   pub long-refused : 65536 < length file → (refused 3 ≡ fileReply file field wind) × ((field ≡ takenField file field wind) × (wind ≡ takenWind file field wind))
-  unfolding fileReply takenField takenWind
+  unfolding fileReply takenField takenWind after
   long-refused h = rw (lt-ltb 65536 (length file) h) (refl, (refl, refl))
 
   -- else the reading's answer, and what it leaves
   pub short-read : length file ≤ 65536 → (readReply quadratic file field wind ≡ fileReply file field wind) × ((readField quadratic file field wind ≡ takenField file field wind) × (readWind quadratic file field wind ≡ takenWind file field wind))
-  unfolding fileReply takenField takenWind
-  short-read h = rw (le-ltb 65536 (length file) h) (refl, (refl, refl))
+  unfolding fileReply takenField takenWind readField readWind
+  short-read h = rw (le-ltb 65536 (length file) h) (refl, (after-twice (readReply quadratic file field wind) _ field, after-twice (readReply quadratic file field wind) _ wind))
 
-  -- a file that is accepted is not too long
-  accepted-short : (g : Shape) → fileReply file field wind ≡ accepted g → ltb 65536 (length file) ≡ false
-  unfolding fileReply
-  accepted-short g = go (ltb 65536 (length file))
-    where
-      go : (b : Bool) → cond b (refused 3) (readReply quadratic file field wind) ≡ accepted g → b ≡ false
-      go true e = let z : _≡_ {A = ℕ} 0 1 = cc in absurd (omega arith)
-      go false e = refl
-
+  -- a file that is accepted was read
   module _ (g : Shape) (e : fileReply file field wind ≡ accepted g) where
     pub file-read : readReply quadratic file field wind ≡ accepted g
     unfolding fileReply
-    file-read = sym (ap (λ b. cond b (refused 3) (readReply quadratic file field wind)) (accepted-short g e)) ∙ e
+    file-read = go (ltb 65536 (length file)) e
+      where
+        go : (b : Bool) → cond b (refused 3) (readReply quadratic file field wind) ≡ accepted g → readReply quadratic file field wind ≡ accepted g
+        go true q = let z : _≡_ {A = ℕ} 0 1 = cc in absurd (omega arith)
+        go false q = q
 
     pub field-taken : takenField file field wind ≡ readField quadratic file field wind
     unfolding takenField
-    field-taken = ap (λ b. cond b field (readField quadratic file field wind)) (accepted-short g e)
+    field-taken = after-accepted (fileReply file field wind) g _ field e
 
     pub wind-taken : takenWind file field wind ≡ readWind quadratic file field wind
     unfolding takenWind
-    wind-taken = ap (λ b. cond b wind (readWind quadratic file field wind)) (accepted-short g e)
+    wind-taken = after-accepted (fileReply file field wind) g _ wind e
 
   -- the text of a refused file, and of one that was read
   module _ (made : Shape → List ℕ → List ℤ → Answer (List ℕ)) where

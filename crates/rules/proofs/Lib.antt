@@ -13,6 +13,7 @@ pub mod CallLaws
 pub mod FieldLaws
 pub mod TextLaws
 pub mod MapLaws
+pub mod PlacesOnPage
 pub mod GivesLaws
 pub mod StageBounds
 pub mod FluxRounding

@@ -4,6 +4,7 @@ use mathlib.Core.List.{List, _∷_, [], append-assoc}
 use Prim.Native.Nat.{ℕ, _+_, _*_, _-_, _^_, _≤_, _<_}
 use native.Mathlib.Nat.{mul-le-mul}
 use native.Mathlib.Omega.{arith}
+use borrow.Author.Tests.{lt-ltb, le-ltb}
 use lib.Dec.{ltb, ltb→lt}
 use lib.ListN.{length, take, drop}
 use lib.Seq.{take-at}
@@ -22,10 +23,26 @@ use Rattle.rules.proofs.GridLaws.{element-lt}
 use Rattle.rules.proofs.ShapeLaws.{ranges}
 use Rattle.rules.proofs.TextLaws.{Character, Characters, characters-append, characters-repeated, characters-blanks, characters-blocks, characters-number, one-line, lines-append, lines-blocks}
 
+-- ---- columns and blocks
+module _ (g : Shape) where
+  -- a column that is there, and one that is missing
+  pub column-there : (number : ℕ → ℕ) (i : ℕ) → i < g .nx → columnText g number i ≡ rightAligned 10 (decimal (number i))
+  unfolding columnText
+  column-there number i h = rw (lt-ltb i (g .nx) h)
+
+  pub column-missing : (number : ℕ → ℕ) (i : ℕ) → g .nx ≤ i → columnText g number i ≡ blanks 10
+  unfolding columnText
+  column-missing number i h = rw (le-ltb i (g .nx) h)
+
+  -- no block is without columns
+  pub block-starts : (b : ℕ) → b < blockCount g → columnOf b 0 < g .nx
+  unfolding blockCount
+  block-starts b h = omega arith
+
 -- ---- the lines of a page
 module _ (g : Shape) where
   -- a number of at most ten digits, or blanks
-  column-characters : (number : ℕ → ℕ) (i : ℕ) → (i < g .nx → number i < 10 ^ 10) → Characters 10 (columnText g number i)
+  pub column-characters : (number : ℕ → ℕ) (i : ℕ) → (i < g .nx → number i < 10 ^ 10) → Characters 10 (columnText g number i)
   unfolding columnText
   column-characters number i h = cond-ind (ltb i (g .nx)) (rightAligned 10 (decimal (number i))) (blanks 10) (Characters 10)
       (λ t. characters-number 10 9 (number i) (omega arith) (omega arith) (h (ltb→lt i (g .nx) t))) (λ _. characters-blanks 10)
@@ -53,15 +70,22 @@ sum-line sum h = one-line (characters-append word (characters-number 70 9 sum (o
     word = characters-append (letter 115 (omega arith)) (characters-append (letter 117 (omega arith)) (letter 109 (omega arith)))
 
 module _ (κ : Kind) (g : Shape) (p : List ℕ) (s : Admitted g) (small : total κ g p ≤ limit) where
-  row-line : (b j : ℕ) → j < g .ny → Lines 1 (rowLine κ g p b j)
-  unfolding rowLine
-  row-line b j h = block-line g (λ i. mass κ p (element g i j)) b (characters-number 3 2 j (omega arith) (omega arith) (omega arith))
-      (λ i l. omega (arith, mass-le-total κ g p (element g i j) (element-lt g i j l h)))
+  -- row j: its own number, and those of its elements
+  module _ (j : ℕ) (h : j < g .ny) where
+    pub row-first : Characters 3 (rightAligned 3 (decimal j))
+    row-first = characters-number 3 2 j (omega arith) (omega arith) (omega arith)
 
-  block-lines : (b : ℕ) → Lines (g .ny + 1) (blockText κ g p b)
+    pub row-small : (i : ℕ) → i < g .nx → mass κ p (element g i j) < 10 ^ 10
+    row-small i l = omega (arith, mass-le-total κ g p (element g i j) (element-lt g i j l h))
+
+    pub row-line : (b : ℕ) → Lines 1 (rowLine κ g p b j)
+    unfolding rowLine
+    row-line b = block-line g (λ i. mass κ p (element g i j)) b row-first row-small
+
+  pub block-lines : (b : ℕ) → Lines (g .ny + 1) (blockText κ g p b)
   unfolding blockText
   block-lines b = subst (λ n. Lines n (blockText κ g p b)) (omega arith)
-      (lines-append (header-line g s b) (lines-blocks 1 (λ n. rowLine κ g p b (g .ny - (n + 1))) (g .ny) (λ n h. row-line b (g .ny - (n + 1)) (omega arith))))
+      (lines-append (header-line g s b) (lines-blocks 1 (λ n. rowLine κ g p b (g .ny - (n + 1))) (g .ny) (λ n h. row-line (g .ny - (n + 1)) (omega arith) b)))
 
   -- every line of a page is exactly 73 characters and a newline
   pub page-lines : Lines (pageLines g) (pageText κ g p)
@@ -73,7 +97,7 @@ module _ (κ : Kind) (g : Shape) (p : List ℕ) (s : Admitted g) (small : total 
   unfolding pageLength
   page-length = page-lines .long
 
--- at most ten blocks of 64 rows
+-- at most ten blocks of 65 lines
 pub lines-few : (g : Shape) → Admitted g → blockCount g * (g .ny + 1) ≤ 650
 unfolding blockCount
 lines-few g h = mul-le-mul {n₁ = blockCount g} {n₂ = 10} {m₂ = 65} (omega (arith, h .nx-small)) (omega (arith, h .ny-small))

@@ -13,10 +13,11 @@ use Rattle.rules.specs.Calls.{soundIfThere}
 use Rattle.rules.specs.Text.{decimalBy, decimal, newline, blanks, rightAligned}
 
 -- ---- the page
--- "in blocks of seven columns of elements, west first": place c of block b is column 7 b + c of the grid, and so many blocks have all nx columns
+-- "in blocks of seven columns of elements, west first": place c of block b is column 7 b + c of the grid
 abbrev pub columnOf : ℕ → ℕ → ℕ
 columnOf b c = 7 * b + c
 
+-- as many blocks as nx columns need: nx / 7, rounded up
 unfoldable pub blockCount : Shape → ℕ
 blockCount g = (g .nx + 6) / 7
 
@@ -60,7 +61,7 @@ module _ (κ : Kind) (g : Shape) (p : List ℕ) where
   unfolding blocks blockCount blockText sumLine total
   pageText = blocks (blockCount g) blockText ++ sumLine (total κ g p)
 
--- the lines of a page, and its bytes
+-- how many lines a page has, and how many bytes
 abbrev pub pageLines : Shape → ℕ
 pageLines g = blockCount g * (g .ny + 1) + 1
 

@@ -24,16 +24,16 @@ signed (pos n) = decimal n
 signed (negsuc n) = 45 ∷ decimal (suc n)
 
 -- ---- lines: "Every printed line ends with a newline byte, 0A hexadecimal."
-abbrev pub space : List ℕ
-space = 32 ∷ []
-
 abbrev pub newline : List ℕ
 newline = 10 ∷ []
 
--- ---- pages (document 02, 2026-03)
 abbrev pub blanks : ℕ → List ℕ
 blanks n = replicate n 32
 
+abbrev pub space : List ℕ
+space = blanks 1
+
+-- ---- pages (document 02, 2026-03)
 -- "right-aligned in ten": blanks before the bytes, as many as are missing to the width
 unfoldable pub rightAligned : ℕ → List ℕ → List ℕ
 rightAligned width bytes = blanks (width - length bytes) ++ bytes

@@ -1,12 +1,12 @@
 -- Bytes added to a buffer, one after the other.
 use mathlib.Core.Path.{_≡_, refl, sym, ap, subst, _∙_}
-use mathlib.Core.List.{List, [], _∷_, _++_, append-assoc}
+use mathlib.Core.List.{List, [], _∷_, _++_}
 use Prim.Native.Nat.{ℕ, _+_, _*_, _-_, _≤_, _<_}
 use native.Mathlib.Nat.{le-trans, suc-mul, mul-one, zero-sub}
 use native.Mathlib.Numerals.{add-one}
 use native.Mathlib.Omega.{arith}
 use lib.ListN.{length, getD, set, take, drop, length-append, take-append-drop}
-use lib.Seq.{drop-drop, length-take-le, take-at, drop-at, set-split, ext-getD}
+use lib.Seq.{drop-drop, take-at, set-split, ext-getD}
 use Rattle.whole.specs.Table.{blocks, overwrite}
 use Rattle.whole.proofs.TableLaws.{blocks-more, length-blocks, getD-blocks, table-blocks}
 use Rattle.whole.proofs.OverwriteLaws.{length-overwrite, part-room, front-is, table-const}

@@ -8,11 +8,8 @@ use native.Mathlib.Decide.{decLt}
 use native.Mathlib.Numerals.{unary-clauses}
 use native.Mathlib.Omega.{arith}
 use borrow.Author.Tests.{lt-ltb, le-ltb, ltb-true}
-use lib.Dec.{ltb}
 use lib.IntN.{ℤ, pos, negsuc, natAbs}
 use lib.Signed.{ltZ}
-use lib.ListN.{length, length-append}
-use Rattle.whole.proofs.Cases.{cond-ind}
 use Rattle.io.specs.Digits.{digits, Fewest}
 use Rattle.rules.specs.Text.{decimalBy, signed}
 

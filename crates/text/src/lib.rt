@@ -1,4 +1,5 @@
-// Words and numbers in base ten, added to a buffer at a place. Each function is a leaf, asks for room and answers where its bytes end.
+// Words, blanks and numbers in base ten, added to a buffer at a place. Each function that adds bytes is a leaf, asks for room and answers
+// where they end.
 ghost use mathlib.Core.Path.{_≡_};
 ghost use Prim.Native.Nat.{_+_, _-_, _≤_};
 ghost use lib.IntN.{natAbs};

@@ -8,11 +8,11 @@ use native.Mathlib.Omega.{arith}
 use borrow.Author.Tests.{not-true, not-false}
 use lib.ListN.{length}
 use Rattle.rules.specs.Answers.{accepted, reading}
-use Rattle.rules.specs.Field.{quadratic, admitted, limit}
+use Rattle.rules.specs.Field.{quadratic, admitted}
 use Rattle.rules.specs.Calls.{totalReading}
 use Rattle.rules.specs.Map.{pageLength}
 use Rattle.rules.proofs.ShapeLaws.{ranges}
-use Rattle.field.proofs.CheckLaws.{Found, found}
+use Rattle.field.proofs.CheckLaws.{found}
 use Rattle.map.proofs.CheckLaws.{map-bad-shape, map-short, map-refused, map-found, page-kept, page-written}
 use Rattle.map.proofs.map.Statement.{statement}
 use Rattle.map.proofs.map.Tie as tie

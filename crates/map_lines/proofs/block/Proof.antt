@@ -1,6 +1,6 @@
 -- A block: its first line, and after n turns the n northmost rows.
 use mathlib.Core.Path.{_≡_}
-use Prim.Native.Nat.{_≤_, _<_, _+_, _*_, _-_}
+use Prim.Native.Nat.{_≤_, _+_, _*_, _-_}
 use borrow.Author.Needs.{needs}
 use native.Mathlib.Omega.{arith}
 use lib.ListN.{length}

@@ -1,14 +1,15 @@
 -- A column by its test: its number, which has ten digits at most, or blanks.
-use mathlib.Core.Path.{_≡_, ap, _∙_}
-use Prim.Native.Nat.{_≤_}
+use mathlib.Core.Path.{_≡_, sym, ap, _∙_}
 use borrow.Author.Needs.{needs}
 use native.Mathlib.Omega.{arith}
 use lib.ListN.{length}
 use Rattle.rules.specs.Field.{quadratic, part}
 use Rattle.rules.specs.Text.{decimalBy, rightAligned}
+use Rattle.rules.proofs.MapLaws.{column-there, column-missing}
+use Rattle.rules.proofs.TextLaws.{characters-number}
 use Rattle.text.proofs.AddedLaws.{same-bytes, word-is}
 use Rattle.map_lines.specs.PageLines.{lineNumber}
-use Rattle.map_lines.proofs.PageLaws.{number-width, line-number-small, column-there, column-missing}
+use Rattle.map_lines.proofs.PageLaws.{line-number-small}
 use Rattle.map_lines.proofs.column.Statement.{statement}
 use Rattle.map_lines.proofs.column.Tie as tie
 
@@ -24,7 +25,7 @@ ten : (c : tie.After-number) → length (rightAligned 10 (decimalBy 19 (c .numbe
 ten c =
     let b = entry-from-number c in
     let a = b .args in
-    number-width 10 9 (c .number .result) (omega arith) (omega (arith, c .number .ensures, line-number-small (a .shape) (a .tracer) (a .field .now) (b .pre .0) (a .line) (b .pre .1 .0) (a .i) (then-from-number c .if1 .taken)))
+    characters-number 10 9 (c .number .result) (omega arith) (omega arith) (omega (arith, c .number .ensures, line-number-small (a .shape) (a .tracer) (a .field .now) (b .pre .0) (a .line) (b .pre .1 .0) (a .i) (then-from-number c .if1 .taken))) .long
 
 right-aligned-requires : tie.Need-right-aligned-requires
 right-aligned-requires c κs = omega (arith, ten c, entry-from-number c .pre .1 .1)
@@ -34,14 +35,14 @@ returns c =
     let n = c .before .before .before in
     let a = entry-from-number n .args in
     let number = lineNumber (a .shape) (part quadratic (a .shape) (a .tracer) (a .field .now)) (a .line) in
-    let is = ap (λ k. rightAligned 10 (decimalBy 19 k)) (n .number .ensures) ∙ column-there (a .shape) number (a .i) (then-from-number n .if1 .taken) in
+    let is = ap (λ k. rightAligned 10 (decimalBy 19 k)) (n .number .ensures) ∙ sym (column-there (a .shape) number (a .i) (then-from-number n .if1 .taken)) in
     word-is is (omega (arith, ten n, ap length is)) (c .before .before .right-aligned .ensures)
 
 returns-2 : tie.Need-returns-2
 returns-2 c =
     let e = c .before .before .before .before in
     let a = e .before .before .before .before .args in
-    same-bytes (column-missing (a .shape) (lineNumber (a .shape) (part quadratic (a .shape) (a .tracer) (a .field .now)) (a .line)) (a .i) (e .if1 .left)) (c .before .before .blanks .ensures)
+    same-bytes (sym (column-missing (a .shape) (lineNumber (a .shape) (part quadratic (a .shape) (a .tracer) (a .field .now)) (a .line)) (a .i) (e .if1 .left))) (c .before .before .blanks .ensures)
 
 pub column-spec : {M : Type 1} → statement M
 column-spec =

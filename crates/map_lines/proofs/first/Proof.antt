@@ -5,9 +5,10 @@ use borrow.Author.Needs.{needs}
 use native.Mathlib.Omega.{arith}
 use lib.ListN.{length}
 use Rattle.rules.specs.Text.{decimalBy, rightAligned}
+use Rattle.rules.proofs.TextLaws.{characters-number}
 use Rattle.text.proofs.AddedLaws.{same-bytes, wider}
 use Rattle.map_lines.specs.PageLines.{lineFirst}
-use Rattle.map_lines.proofs.PageLaws.{number-width, row-there}
+use Rattle.map_lines.proofs.PageLaws.{row-there}
 use Rattle.map_lines.proofs.first.Statement.{statement}
 use Rattle.map_lines.proofs.first.Tie as tie
 
@@ -23,7 +24,7 @@ three : (c : tie.After-line) → length (rightAligned 3 (decimalBy 19 (c .line .
 three c =
     let b = entry-from-line c in
     let there : c .line .given .0 .0 < b .args .shape .ny = row-there (b .args .shape) (b .args .line) (c .line .given .1) (b .pre .1 .0) in
-    number-width 3 2 (c .line .given .0 .0) (omega arith) (omega (arith, there, b .pre .0 .ny-small))
+    characters-number 3 2 (c .line .given .0 .0) (omega arith) (omega arith) (omega (arith, there, b .pre .0 .ny-small)) .long
 
 right-aligned-requires : tie.Need-right-aligned-requires
 right-aligned-requires c κs = let l = line-from-right-aligned-arg c in omega (arith, three l, entry-from-line l .pre .1 .1)

@@ -1,16 +1,16 @@
 -- A line: what comes first, after c turns c of its columns, and the newline.
 use mathlib.Core.Path.{_≡_}
-use Prim.Native.Nat.{_≤_, _<_, _+_, _*_, _-_}
+use Prim.Native.Nat.{_≤_, _+_, _*_, _-_}
 use borrow.Author.Needs.{needs}
 use native.Mathlib.Omega.{arith}
 use lib.ListN.{length}
 use Rattle.whole.specs.Table.{blocks}
 use Rattle.rules.specs.Field.{quadratic, part}
 use Rattle.rules.specs.Map.{columnText, blockLine}
+use Rattle.rules.proofs.MapLaws.{block-starts}
 use Rattle.text.specs.Added.{Added}
 use Rattle.text.proofs.AddedLaws.{added-length, added-room, then, blocks-none, block-room, block-more}
 use Rattle.map_lines.specs.PageLines.{lineNumber}
-use Rattle.map_lines.proofs.PageLaws.{block-starts}
 use Rattle.map_lines.proofs.line.Statement.{statement}
 use Rattle.map_lines.proofs.line.Tie as tie
 

@@ -4,8 +4,8 @@ use native.Mathlib.Omega.{arith}
 use lib.ListN.{length}
 use Rattle.rules.specs.Text.{decimalBy, rightAligned}
 use Rattle.rules.specs.Map.{sumLine}
+use Rattle.rules.proofs.TextLaws.{characters-number}
 use Rattle.text.proofs.AddedLaws.{added-room, then, wider}
-use Rattle.map_lines.proofs.PageLaws.{number-width}
 use Rattle.map_lines.proofs.sum_line.Statement.{statement}
 use Rattle.map_lines.proofs.sum_line.Tie as tie
 
@@ -18,7 +18,7 @@ entry-from-put c = c .before .before .before .before
 
 -- the sum takes 70 bytes
 seventy : (c : tie.After-right-aligned-arg) → length (rightAligned 70 (decimalBy 19 (entry-from-put (put-from-right-aligned-arg c) .args .sum))) ≡ 70
-seventy c = let b = entry-from-put (put-from-right-aligned-arg c) in number-width 70 8 (b .args .sum) (omega arith) (omega (arith, b .pre .0))
+seventy c = let b = entry-from-put (put-from-right-aligned-arg c) in characters-number 70 8 (b .args .sum) (omega arith) (omega arith) (omega (arith, b .pre .0)) .long
 
 right-aligned-requires : tie.Need-right-aligned-requires
 right-aligned-requires c κs =

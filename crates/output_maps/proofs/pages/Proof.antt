@@ -1,9 +1,8 @@
 -- All pages: after s turns those of the first s tracers.
 use mathlib.Core.Path.{_≡_}
-use Prim.Native.Nat.{_≤_, _+_, _*_, _-_}
+use Prim.Native.Nat.{_≤_, _*_, _-_}
 use borrow.Author.Needs.{needs}
 use native.Mathlib.Omega.{arith}
-use lib.ListN.{length}
 use Rattle.whole.specs.Table.{blocks}
 use Rattle.rules.specs.Field.{quadratic, part}
 use Rattle.rules.specs.Map.{pageText, pageLength}

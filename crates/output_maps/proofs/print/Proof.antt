@@ -1,10 +1,9 @@
 -- The whole text: by the answer of reading the file it is the refusal, or the pages of the field that was read.
-use mathlib.Core.Path.{_≡_, sym, ap, subst, _∙_}
-use Prim.Native.Nat.{_≤_}
+use mathlib.Core.Path.{sym, ap, subst, _∙_}
 use borrow.Author.Needs.{needs}
 use native.Mathlib.Omega.{arith}
-use Rattle.rules.specs.Answers.{accepted, fileAnswer}
-use Rattle.rules.specs.Field.{quadratic, elementLength, faces}
+use Rattle.rules.specs.Answers.{fileAnswer}
+use Rattle.rules.specs.Field.{quadratic, elementLength}
 use Rattle.rules.specs.Program.{textOf, fieldLent, windLent, printedFor, pages, mapOutput}
 use Rattle.file_layout.proofs.ReplyLaws.{read-shown}
 use Rattle.text.proofs.AddedLaws.{same-bytes}
