@@ -39,4 +39,6 @@ fn main() {
     imports::refused_before_records();
     maps::pages();
     maps::refusals();
+    maps::tracers();
+    maps::over_limit();
 }

@@ -44,97 +44,56 @@ fn row() -> [u32; 80] {
 
 // One column, a whole block, one column more, rows from the north on, and a page with surplus.
 pub(crate) fn pages() {
-    map(b"1 by 1", &mut [63; 222], &row(), calls::shape(1, 1, 1), 0);
-    map(b"7 by 1", &mut [63; 222], &row(), calls::shape(7, 1, 1), 0);
-    map(b"8 by 1", &mut [63; 370], &row(), calls::shape(8, 1, 1), 0);
-    map(b"2 by 4", &mut [63; 444], &row(), calls::shape(2, 4, 1), 0);
-    map(
-        b"1 by 1, tracer 7",
-        &mut [63; 225],
-        &row(),
-        calls::shape(1, 1, 8),
-        7,
-    );
+    let row = row();
+    map(b"1 by 1", &mut [63; 222], &row, calls::shape(1, 1, 1), 0);
+    map(b"7 by 1", &mut [63; 222], &row, calls::shape(7, 1, 1), 0);
+    map(b"8 by 1", &mut [63; 370], &row, calls::shape(8, 1, 1), 0);
+    rows();
 }
 
-// 2, 4 for the field and for the page, 6 of the named tracer alone, 7; and two faults.
+fn rows() {
+    let row = row();
+    map(b"2 by 4", &mut [63; 444], &row, calls::shape(2, 4, 1), 0);
+    let eight = calls::shape(1, 1, 8);
+    map(b"1 by 1, tracer 7", &mut [63; 225], &row, eight, 7);
+}
+
+// Calls on the sample, and on a tracer 0 with a remainder 36, with a page of just the length that the shape of most cases needs.
+fn on_sample(edge: &[u8], shape: Shape) {
+    map(edge, &mut [63; 222], &buffers::sample(), shape, 0);
+}
+
+fn on_odd(edge: &[u8], tracer: usize) {
+    let field = buffers::remainder_36();
+    map(edge, &mut [63; 222], &field, buffers::pair(), tracer);
+}
+
+// The same with a page that is a byte too short.
+fn short(edge: &[u8], tracer: usize) {
+    let field = buffers::remainder_36();
+    map(edge, &mut [63; 221], &field, buffers::pair(), tracer);
+}
+
+// 2, and 4 for the field and for the page.
 pub(crate) fn refusals() {
+    on_sample(b"nx 0", calls::shape(0, 1, 2));
+    on_sample(b"ny 65", calls::shape(2, 65, 2));
+    on_sample(b"59 numbers for 60", buffers::three_tracers());
+    on_sample(b"64 by 64, 8 tracers", calls::shape(64, 64, 8));
+    short(b"221 bytes for 222", 1);
+}
+
+// 6 of the named tracer alone, and 7; then two faults.
+pub(crate) fn tracers() {
+    on_odd(b"remainder 36", 0);
+    on_odd(b"remainder 36 in the other tracer", 1);
+    on_odd(b"tracer 2 of 2", 2);
+    short(b"remainder 36 and 221 bytes", 0);
+    short(b"tracer 2 of 2 and 221 bytes", 2);
+}
+
+pub(crate) fn over_limit() {
+    let field = buffers::total_of(17);
     let pair = buffers::pair();
-    map(
-        b"nx 0",
-        &mut [63; 222],
-        &buffers::sample(),
-        calls::shape(0, 1, 2),
-        0,
-    );
-    map(
-        b"ny 65",
-        &mut [63; 222],
-        &buffers::sample(),
-        calls::shape(2, 65, 2),
-        0,
-    );
-    map(
-        b"59 numbers for 60",
-        &mut [63; 222],
-        &buffers::sample(),
-        buffers::three_tracers(),
-        0,
-    );
-    map(
-        b"221 bytes for 222",
-        &mut [63; 221],
-        &buffers::sample(),
-        pair,
-        0,
-    );
-    map(
-        b"64 by 64, 8 tracers",
-        &mut [63; 222],
-        &buffers::sample(),
-        calls::shape(64, 64, 8),
-        0,
-    );
-    map(
-        b"remainder 36",
-        &mut [63; 222],
-        &buffers::remainder_36(),
-        pair,
-        0,
-    );
-    map(
-        b"remainder 36 in the other tracer",
-        &mut [63; 222],
-        &buffers::remainder_36(),
-        pair,
-        1,
-    );
-    map(
-        b"a total of 100000001",
-        &mut [63; 222],
-        &buffers::total_of(17),
-        pair,
-        0,
-    );
-    map(
-        b"tracer 2 of 2",
-        &mut [63; 222],
-        &buffers::remainder_36(),
-        pair,
-        2,
-    );
-    map(
-        b"remainder 36 and 221 bytes",
-        &mut [63; 221],
-        &buffers::remainder_36(),
-        pair,
-        0,
-    );
-    map(
-        b"tracer 2 of 2 and 221 bytes",
-        &mut [63; 221],
-        &buffers::sample(),
-        pair,
-        2,
-    );
+    map(b"a total of 100000001", &mut [63; 222], &field, pair, 0);
 }
