@@ -28,7 +28,7 @@ pub(crate) enum BlockLine {
     Row(usize),
 }
 
-// How many blocks have all columns.
+// As many blocks as the columns need.
 fn block_count(shape: Shape) -> usize
     requires { ⌜ Admitted shape ⌝ }
     ensures { λ r. ⌜ r ≡ blockCount shape ⌝ }
