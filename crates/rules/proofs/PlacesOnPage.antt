@@ -12,8 +12,8 @@ use Rattle.whole.proofs.TableLaws.{length-blocks, getD-blocks}
 use Rattle.rules.specs.declared.Shape.{Shape}
 use Rattle.rules.specs.Field.{Kind, Admitted, element, mass, total, limit}
 use Rattle.rules.specs.Text.{decimal, newline, rightAligned}
-use Rattle.rules.specs.Map.{columnOf, blockCount, columnText, blockLine, headerLine, sumLine, rowLine, blockText, pageText}
-use Rattle.rules.proofs.TextLaws.{Characters, characters-blanks}
+use Rattle.rules.specs.Map.{columnOf, blockCount, columnText, blockLine, headerLine, sumWord, sumLine, rowLine, blockText, pageText}
+use Rattle.rules.proofs.TextLaws.{Characters, characters-blanks, characters-number}
 use Rattle.rules.proofs.MapLaws.{column-there, column-characters, header-line, row-first, row-small, row-line, block-lines}
 
 -- byte d of column i's ten, in any line of the column's block
@@ -66,3 +66,14 @@ module _ (κ : Kind) (g : Shape) (p : List ℕ) (s : Admitted g) (small : total 
       ∙ getD-blocks 74 row (λ m. row-line κ g p s small (g .ny - (m + 1)) (omega arith) (i / 7) .long) (g .ny) n (inLine i d) 0 (omega arith) (omega arith)
       ∙ ap (λ m. getD (rowLine κ g p (i / 7) m) (inLine i d) 0) is
       ∙ line-at g (λ c. mass κ p (element g c j)) (row-first κ g p s small j hj) (row-small κ g p s small j hj) i d hi hd
+
+  -- the total stands in the last line, after its word
+  pub sum-at : (d : ℕ) → d < 70 → getD (pageText κ g p) (blockCount g * (g .ny + 1) * 74 + (3 + d)) 0 ≡ getD (rightAligned 70 (decimal (total κ g p))) d 0
+  unfolding pageText sumLine
+  sum-at d hd =
+      let sum = rightAligned 70 (decimal (total κ g p)) in
+      let long : length sum ≡ 70 = characters-number 70 9 (total κ g p) (omega arith) (omega arith) (omega arith) .long in
+      let before : length (blocks (blockCount g) (blockText κ g p)) ≡ blockCount g * (g .ny + 1) * 74 =
+      length-blocks ((g .ny + 1) * 74) (blockText κ g p) (λ b. block-lines κ g p s small b .long) (blockCount g) ∙ sym (mul-assoc (blockCount g) (g .ny + 1) 74) in
+      second-at (blockCount g * (g .ny + 1) * 74) (blocks (blockCount g) (blockText κ g p)) (sumLine (total κ g p)) (3 + d) before
+      ∙ second-at 3 sumWord (sum ++ newline) d refl ∙ List·getD-append sum newline 0 d (omega (arith, long))
