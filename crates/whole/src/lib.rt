@@ -1,4 +1,6 @@
 // The two divisions that other crates use: rounded down, and to the nearest.
+#![tactic(auto)]
+
 ghost use Rattle.std.specs.Prelude.{◌≡◌, ◌≤◌, ◌<◌, pos, nat_abs, ◌≤ℤ◌};
 ghost use Rattle.whole.specs.Bound.{Within, floor_div};
 ghost use Rattle.whole.specs.Nearest.{nearest_natural};
