@@ -1,4 +1,6 @@
 // Answers and faces as the numbers that the C interface passes.
+#![tactic(auto)]
+
 ghost use Rattle.std.specs.Prelude.{◌≡◌, pos, neg_ℤ};
 ghost use Rattle.whole.specs.Bound.{Are};
 ghost use Rattle.rules.specs.Answers.{number, outcome, reading, file_answer};

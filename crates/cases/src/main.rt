@@ -1,5 +1,7 @@
 // Runs the calls on a field at and beside the edges of documents 01 and 02, and prints a line for each: the call, what is at the edge,
 // its answer and what it left. A refused call's buffers are compared with copies from before it.
+#![tactic(auto)]
+
 mod buffers; // buffers.rt: buffers to start from
 mod calls; // calls.rt: one line for a call
 mod contents; // contents.rt: what accepted calls leave

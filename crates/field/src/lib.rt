@@ -1,5 +1,7 @@
 // The calls on a field: fresh, wind, load, emission, withdrawal and the readings.
 // All but `element_mass` are calls. A call has no `requires`: what document 01 doesn't admit is refused by its number, and a refused call writes nothing.
+#![tactic(auto)]
+
 ghost use Rattle.std.specs.Prelude.{◌≡◌, ◌≤◌, length};
 ghost use Rattle.rules.specs.Field.{quadratic, element, field_length, part, mass};
 ghost use Rattle.field_layout.specs.Places.{Inside};

@@ -1,4 +1,6 @@
 // Shapes, and where the numbers of a shape stand in its buffers. All but the tests are leaves, for an admitted shape.
+#![tactic(auto)]
+
 ghost use Rattle.std.specs.Prelude.{◌≡◌, ◌*◌, ◌<◌};
 ghost use Rattle.rules.specs.Field.{quadratic, from1to, admitted, elements, faces, on_grid, elements_length, part_length, field_length, Admitted, wind_in_range};
 ghost use Rattle.rules.specs.Grid.{face_index};

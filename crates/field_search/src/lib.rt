@@ -1,4 +1,6 @@
 // Searches of stored numbers: the winds, and a tracer's numbers, "by rows, elements and numbers ends at the first break".
+#![tactic(auto)]
+
 ghost use Rattle.std.specs.Prelude.{◌≡◌, ◌≤◌, length};
 ghost use Rattle.rules.specs.Answers.{reading};
 ghost use Rattle.rules.specs.Field.{quadratic, faces, part_length, Admitted};

@@ -1,4 +1,6 @@
 // Where the sections of a file stand, for an admitted shape, and the mark that it ends with. Leaves.
+#![tactic(auto)]
+
 ghost use Rattle.std.specs.Prelude.{◌≡◌, ◌+◌, ◌≤◌, eqb, length, get_or};
 ghost use Rattle.whole.specs.Sum.{all};
 ghost use Rattle.rules.specs.Field.{quadratic, Admitted};

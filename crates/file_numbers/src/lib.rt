@@ -1,4 +1,6 @@
 // A u32 and an i16 as little-endian bytes, both ways, and a u64 from its bytes. All functions are leaves: the bytes are there.
+#![tactic(auto)]
+
 ghost use Rattle.std.specs.Prelude.{◌≡◌, ◌+◌, ◌*◌, ◌≤◌, length};
 ghost use Rattle.whole.specs.Table.{overwrite};
 ghost use Rattle.rules.specs.Bytes.{number32, number64, number16, bits16, bytes32, bytes16};

@@ -1,5 +1,7 @@
 // The call that reads a field file.
 // A call has no `requires`: what document 01 doesn't admit is refused by its number, and a refused call writes nothing.
+#![tactic(auto)]
+
 ghost use Rattle.std.specs.Prelude.{◌≡◌, ◌≤◌, length};
 ghost use Rattle.whole.specs.Table.{overwrite};
 ghost use Rattle.rules.specs.Field.{quadratic, faces, field_length, Admitted};

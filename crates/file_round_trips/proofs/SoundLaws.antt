@@ -21,7 +21,7 @@ use Rattle.rules.specs.declared.Shape.{Shape}
 use Rattle.rules.specs.Field.{Kind, elements, faces, element_length, part_length, field_length, part, cell, remainder, mass, total, limit, weight_sum, sound, wind_in_range}
 use Rattle.rules.specs.Calls.{wind_at, wind_sound}
 use Rattle.rules.specs.FieldFile.{field_sound}
-use Rattle.rules.proofs.PartLaws.{part_length, value-le-mass, mass-le-total}
+use Rattle.rules.proofs.PartLaws.{length-part, value-le-mass, mass-le-total}
 use Rattle.file_layout.proofs.ReplyLaws.{and_yes}
 
 -- a test that holds at every index holds of all
@@ -58,8 +58,8 @@ module _ (κ : Kind) (g : Shape) where
     parts_same : (s : ℕ) → s < g.tracers → part κ g s f' ≡ part κ g s f
     unfolding field_length
     parts_same s h =
-        let size = part_length κ g s f h room in
-        let size' = part_length κ g s f' h room' in
+        let size = length-part κ g s f h room in
+        let size' = length-part κ g s f' h room' in
         ext_get_or 0 (part κ g s f') (part κ g s f) (size' ∙ sym size)
         (λ j l. let m : j < part_length κ g = omega (arith, size') in
         part-number f' s j m ∙ same (s * part_length κ g + j) (digits_lt h m) ∙ sym (part-number f s j m))

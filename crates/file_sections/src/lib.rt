@@ -1,5 +1,7 @@
 // Sections of a field file: numbers one after the other. All functions are leaves of file reading and writing: the section and the
 // buffer are long enough.
+#![tactic(auto)]
+
 ghost use Rattle.std.specs.Prelude.{◌≡◌, ◌*◌, ◌≤◌, length, get_or};
 ghost use Rattle.whole.specs.Sum.{all};
 ghost use Rattle.whole.specs.Table.{blocks, overwrite};

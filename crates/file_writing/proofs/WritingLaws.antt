@@ -14,7 +14,7 @@ use Rattle.rules.specs.declared.Shape.{Shape}
 use Rattle.rules.specs.Field.{quadratic, part_length, field_length, part, sound, Admitted}
 use Rattle.rules.specs.Bytes.{bytes32}
 use Rattle.rules.specs.FieldFile.{table_start, mark, tail}
-use Rattle.rules.proofs.PartLaws.{part_length}
+use Rattle.rules.proofs.PartLaws.{length-part}
 use Rattle.field_search.specs.Search.{searched}
 use Rattle.rules.specs.declared.Refusal.{Refusal}
 use Rattle.rules.specs.declared.Reading.{Reading}
@@ -41,7 +41,7 @@ module _ (g : Shape) (field : List ℕ) (room : field_length quadratic g ≤ len
   lent_is = rw (add-sub_cancel_left start w, begins, width)
 
   pub lent_length : length (take (start + w - start) (drop start field)) ≡ part_length quadratic g
-  lent_length = ap length lent_is ∙ part_length quadratic g s field there room
+  lent_length = ap length lent_is ∙ length-part quadratic g s field there room
 
   -- what the search of its part finds
   module _ (r : Reading) (found : reading r ≡ searched g (take (start + w - start) (drop start field))) where

@@ -1,5 +1,7 @@
 // The call that writes a field file.
 // A call has no `requires`: what document 01 doesn't admit is refused by its number, and a refused call writes nothing.
+#![tactic(auto)]
+
 ghost use Rattle.std.specs.Prelude.{◌≡◌, ◌*◌, ◌+◌, ◌≤◌, length, get_or};
 ghost use Rattle.whole.specs.Table.{blocks, overwrite};
 ghost use Rattle.rules.specs.Field.{quadratic, faces, field_length, Admitted};

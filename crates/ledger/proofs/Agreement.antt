@@ -18,7 +18,7 @@ use Rattle.rules.specs.Answers.{Answer, accepted, refused}
 use Rattle.rules.specs.Field.{Kind, elements, element_length, part_length, field_length, part, with_part, cell, remainder, weighted, mass, total, weight_sum}
 use Rattle.rules.specs.Calls.{Operation, load, emission, withdrawal, step, Lent, Reply, call, done, zero_field}
 use Rattle.rules.specs.Ledger.{entry}
-use Rattle.rules.proofs.PartLaws.{node-lt, Good, part_length}
+use Rattle.rules.proofs.PartLaws.{node-lt, Good, length-part}
 use Rattle.rules.proofs.LedgerLaws.{entry-cong}
 use Rattle.rules.proofs.CallLaws.{Kept, operation-law}
 use Rattle.rules.proofs.FieldLaws.{Accepted, call-ind}
@@ -136,7 +136,7 @@ module _ (κ : Kind) (g : Shape) (hw : 0 < weight_sum κ) (field : List ℕ) (wi
   zero-good : (s : ℕ) → s < g.tracers → Good κ g (part κ g s zeros)
   unfolding total remainder
   zero-good s hs = record {
-    size = part_length κ g s zeros hs (subst (λ x. field_length κ g ≤ x) (sym zeros-length) room);
+    size = length-part κ g s zeros hs (subst (λ x. field_length κ g ≤ x) (sym zeros-length) room);
     small = λ e he. subst (λ x. x < weight_sum κ) (sym (zero-cell s e κ.nodes hs he (node-lt κ κ.nodes (omega arith)))) hw;
     bounded = omega (arith, sum-zero (elements g) (mass κ (part κ g s zeros)) (λ e he. zero-mass s e hs he));
   }

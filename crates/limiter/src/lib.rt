@@ -1,5 +1,7 @@
 // The closing of an element, in place: mean adjustment (document 01: levelling), truncation, mass aware rescaling.
 // Every function here is a leaf that other crates call with numbers which they have bounded.
+#![tactic(auto)]
+
 ghost use Rattle.std.specs.Prelude.{◌≡◌, ◌*◌, ◌≤◌, ◌<◌, ◌^◌, pos, ◌*ℤ◌, length};
 ghost use Rattle.whole.specs.Table.{at};
 ghost use Rattle.whole.specs.Bound.{Are};

@@ -1,5 +1,7 @@
 // The reading map: a tracer's page, for the printer.
 // The call has no `requires`: what the documents don't admit is refused by its number, and a refused call writes nothing.
+#![tactic(auto)]
+
 ghost use Rattle.rules.specs.Field.{quadratic};
 ghost use Rattle.rules.specs.Calls.{reads};
 ghost use Rattle.rules.specs.Map.{MapGives};

@@ -1,5 +1,7 @@
 // The page of a map, as bytes in a buffer: its blocks, and the line of the sum. Each function is a leaf, for an admitted shape; those that
 // add bytes ask for room and for a tracer that can be printed, and answer where the bytes end. `page` and `page_length` are what the call uses.
+#![tactic(auto)]
+
 ghost use Rattle.std.specs.Prelude.{◌≡◌, ◌+◌, ◌*◌, ◌≤◌, ◌<◌, length};
 ghost use Rattle.rules.specs.Field.{quadratic, part, total, limit, Admitted};
 ghost use Rattle.rules.specs.Map.{block_count, column_text, block_line, block_text, sum_line, page_text, page_length};

@@ -1,4 +1,6 @@
 // Reads one field file from standard input, steps each smoke once in order and prints. All that is printed is `output::print`'s.
+#![tactic(auto)]
+
 use libc::{STDIN_FILENO, STDOUT_FILENO};
 
 fn main() {

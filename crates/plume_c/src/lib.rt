@@ -1,6 +1,8 @@
 // Calls for C: numbers and buffers in, a number out. include/plume.h declares them.
 // An answer is 0 where the call is accepted, else the refusal's number; a reading's is its number, or the refusal's number negated.
 // What each gives is what the call of the library gives, told by these numbers.
+#![tactic(auto)]
+
 ghost use Rattle.rules.specs.Field.{quadratic};
 ghost use Rattle.rules.specs.Calls.{load, emission, withdrawal, mass_reading, total_reading, CallGives, StepGives, FreshGives, WindGives, one_face, from_records};
 ghost use Rattle.rules.specs.FieldFile.{ReadGives, WriteGives};

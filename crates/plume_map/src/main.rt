@@ -1,4 +1,6 @@
 // Reads one field file from standard input and prints the page of each smoke in order. All that is printed is `output_maps::print`'s.
+#![tactic(auto)]
+
 use libc::{STDIN_FILENO, STDOUT_FILENO};
 
 fn main() {

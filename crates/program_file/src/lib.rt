@@ -1,4 +1,6 @@
 // What the programs share: the buffers that they lend, the reading of a file into them, and the text of a refusal.
+#![tactic(auto)]
+
 ghost use Rattle.std.specs.Prelude.{◌≤◌, length};
 ghost use Rattle.rules.specs.Answers.{number};
 ghost use Rattle.rules.specs.FieldFile.{finds};

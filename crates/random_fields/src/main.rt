@@ -1,5 +1,7 @@
 // Runs both programs on stored files, named by its arguments, and prints each name and what the programs print for that file. The
 // expected output was written by the reference program.
+#![tactic(auto)]
+
 use libc::STDOUT_FILENO;
 
 // One file: its name on a line, its lines after a step, and its pages.

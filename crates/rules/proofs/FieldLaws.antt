@@ -15,7 +15,7 @@ use Rattle.rules.specs.Answers.{Answer, accepted, refused, check, answer, after}
 use Rattle.rules.specs.Field.{Kind, admitted, elements, part_length, field_length, part, with_part, remainder, weight_sum, total, limit, sound, Admitted}
 use Rattle.rules.specs.Calls.{Operation, load, emission, withdrawal, step, Lent, lent_enough, sound_if_there, Reply, Done, done, checks, call, call_checks}
 use Rattle.rules.proofs.AnswerLaws.{Passed, answer-ind}
-use Rattle.rules.proofs.PartLaws.{part_length}
+use Rattle.rules.proofs.PartLaws.{length-part}
 use Rattle.rules.proofs.CallLaws.{done-length}
 use Rattle.rules.proofs.ShapeLaws.{ranges}
 
@@ -63,7 +63,7 @@ module _ (κ : Kind) (g : Shape) (s : ℕ) (op : Operation Lent) (field : List �
     tracer = tracer;
     passed = c.1.1;
     end = omega (arith, room, part_room (part_length κ g) tracer);
-    size = done-length κ g shape.nx-above shape.ny-above op (ltb s g.tracers) p (part_length κ g s field tracer room) c.1.1;
+    size = done-length κ g shape.nx-above shape.ny-above op (ltb s g.tracers) p (length-part κ g s field tracer room) c.1.1;
   }
     where
       shape : Admitted g

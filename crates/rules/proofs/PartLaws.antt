@@ -154,7 +154,7 @@ pub part-is-elements : (κ : Kind) (g : Shape) → part_length κ g ≡ elements
 unfolding part_length
 part-is-elements κ g = refl
 
-pub part_length : (κ : Kind) (g : Shape) (s : ℕ) (field : List ℕ) → s < g.tracers → field_length κ g ≤ length field → length (part κ g s field) ≡ part_length κ g
+pub length-part : (κ : Kind) (g : Shape) (s : ℕ) (field : List ℕ) → s < g.tracers → field_length κ g ≤ length field → length (part κ g s field) ≡ part_length κ g
 unfolding part field_length
-part_length κ g s field h r = length-take-le (part_length κ g) (drop (s * part_length κ g) field)
+length-part κ g s field h r = length-take-le (part_length κ g) (drop (s * part_length κ g) field)
     (omega (arith, length-drop (s * part_length κ g) field, part_room (part_length κ g) h))

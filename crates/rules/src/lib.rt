@@ -1,4 +1,6 @@
 // The types that the calls of documents 01 and 02 take and answer. Their meaning is in specs/.
+#![tactic(auto)]
+
 ghost use Rattle.std.specs.Prelude.{◌≡◌};
 ghost use Rattle.rules.specs.Answers.{number};
 

@@ -1,5 +1,7 @@
 // The step of one tracer under the wind.
 // The call has no `requires`: what document 01 doesn't admit is refused by its number, and a refused call writes nothing.
+#![tactic(auto)]
+
 ghost use Rattle.std.specs.Prelude.{◌≡◌, ◌&&◌, leb};
 ghost use Rattle.rules.specs.Answers.{plain};
 ghost use Rattle.rules.specs.Field.{quadratic, faces, work_needed, field_length, Admitted};

@@ -1,5 +1,7 @@
 // The flux correction of a step: masses and outflows from the fluxes in work, and the fluxes cut by them.
 // Every function here is a leaf: the shape is admitted, work is long enough, and its numbers are as small as a step makes them.
+#![tactic(auto)]
+
 ghost use Rattle.std.specs.Prelude.{◌≡◌, cond, ◌≤◌, ◌<◌, pos, length};
 ghost use Rattle.std.specs.Int.Signed.{non_neg};
 ghost use Rattle.whole.specs.Table.{at};

@@ -1,5 +1,7 @@
 // The face amounts G of a step (fluxes), from the stages in work.
 // Every function here is a leaf: the shape is admitted, work holds the stages, and their numbers are as small as a step makes them.
+#![tactic(auto)]
+
 ghost use Rattle.std.specs.Prelude.{◌+◌, ◌*◌, ◌<◌};
 ghost use Rattle.whole.specs.Bound.{Within, Are};
 ghost use Rattle.whole.specs.Written.{Written};

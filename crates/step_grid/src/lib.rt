@@ -1,4 +1,6 @@
 // The neighbours of an element on the periodic grid, by its index. Leaves, for an element that is on the grid.
+#![tactic(auto)]
+
 ghost use Rattle.std.specs.Prelude.{◌≡◌};
 ghost use Rattle.rules.specs.Grid.{west, east, south, north};
 ghost use Rattle.step_grid.specs.Place.{Placed};

@@ -1,4 +1,6 @@
 // Where the numbers of a step stand in work, which no other crate computes. Leaves, for an admitted shape.
+#![tactic(auto)]
+
 ghost use Rattle.std.specs.Prelude.{◌≡◌, ◌<◌};
 ghost use Rattle.rules.specs.Field.{Admitted};
 ghost use Rattle.step_layout.specs.Sections.{stage_length, stage_start, sums_start, fluxes_start, north_fluxes_start, masses_start, outflows_start};

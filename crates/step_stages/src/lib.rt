@@ -1,5 +1,7 @@
 // The stages of a step, in the caller's work: document 01's φ0, φ1, φ2 and, as stage 3, the tentative ψ.
 // Every function here is a leaf: the shape is admitted, work is long enough, and its numbers are as small as the stages are.
+#![tactic(auto)]
+
 ghost use Rattle.std.specs.Prelude.{◌≡◌, ◌+◌, ◌≤◌, ◌<◌, pos, length, get_or};
 ghost use Rattle.whole.specs.Bound.{Within, Are, AllWithin, floor_div};
 ghost use Rattle.whole.specs.Written.{Written};

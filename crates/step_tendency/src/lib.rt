@@ -1,5 +1,7 @@
 // The tendency of one element, document 01's t(a, b), from its nine values, the winds of its four faces and the upwind values there.
 // Every function here is a leaf: values are as small as the stages are, and winds within 1024.
+#![tactic(auto)]
+
 ghost use Rattle.std.specs.Prelude.{◌≡◌, ◌+◌, ◌*◌, ◌≤◌, ◌<◌, length};
 ghost use Rattle.whole.specs.Bound.{Within, Are, AllWithin};
 ghost use Rattle.whole.specs.Table.{table, at};

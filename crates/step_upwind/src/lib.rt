@@ -1,5 +1,7 @@
 // Upwind values, and the tendencies of one element of the grid. A stage is lent as nine numbers an element.
 // Every function here is a leaf: the element is on the grid, the stage has its numbers, and winds and values are in their ranges.
+#![tactic(auto)]
+
 ghost use Rattle.std.specs.Prelude.{◌≡◌, ◌+◌, ◌≤◌, ◌<◌, length};
 ghost use Rattle.whole.specs.Bound.{Are, AllWithin};
 ghost use Rattle.whole.specs.Table.{table, at};

@@ -1,5 +1,7 @@
 // Words, blanks and numbers in base ten, added to a buffer at a place. Each function that adds bytes is a leaf, asks for room and answers
 // where they end.
+#![tactic(auto)]
+
 ghost use Rattle.std.specs.Prelude.{◌≡◌, ◌+◌, ◌-◌, ◌≤◌, nat_abs, length};
 ghost use Rattle.rules.specs.Text.{decimal, signed, newline, blanks, right_aligned};
 ghost use Rattle.text.specs.Added.{Added};

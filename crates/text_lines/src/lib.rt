@@ -1,6 +1,8 @@
 // The lines that the program prints, as bytes in a buffer, each added at a place and answering where it ends.
 // Every function here is a leaf: the buffer has room for the longest line, and the shape is admitted where it is asked for.
 // `grid_line`, `refused_line` and `tracer_lines` are what the program calls.
+#![tactic(auto)]
+
 ghost use Rattle.std.specs.Prelude.{◌≡◌, ◌+◌, ◌*◌, ◌≤◌, ◌<◌, length};
 ghost use Rattle.rules.specs.Field.{faces, Admitted};
 ghost use Rattle.rules.specs.Grid.{face_index};

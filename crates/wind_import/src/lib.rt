@@ -1,4 +1,6 @@
 // The import of wind records (document 02, 2026-01): two walks over the records, the first one checks, the second one writes.
+#![tactic(auto)]
+
 ghost use Rattle.std.specs.Prelude.{◌≡◌, ◌+◌, ◌≤◌, length};
 ghost use Rattle.whole.specs.Written.{Written};
 ghost use Rattle.rules.specs.Answers.{accepted, answer};

@@ -1,4 +1,6 @@
 // Wind records of the weather office (document 02, 2026-01): a record from its bytes, and the winds that it gives its element's faces.
+#![tactic(auto)]
+
 ghost use Rattle.std.specs.Prelude.{◌≡◌, ◌≤◌, T, length};
 ghost use Rattle.rules.specs.Answers.{answer};
 ghost use Rattle.rules.specs.WindRecords.{finite, components, record_length, components_at, whole_at, reading_checks, record_checks};

@@ -10,7 +10,7 @@ use lib.ListN.{length, take, drop}
 use Rattle.rules.specs.Field.{quadratic, admitted, field_length, part, Admitted}
 use Rattle.field_search.specs.Search.{searched}
 use Rattle.field_layout.proofs.PlaceLaws.{field_is, field-le, tracer-room}
-use Rattle.rules.proofs.PartLaws.{part_length}
+use Rattle.rules.proofs.PartLaws.{length-part}
 use Rattle.rules.proofs.ShapeLaws.{ranges}
 use Rattle.field.proofs.CheckLaws.{total-bad-shape, total-short, total-no-tracer, total-searched}
 use Rattle.field.proofs.total.Statement.{statement}
@@ -76,7 +76,7 @@ part-tracer-total-end : tie.Need-slice-bounds-tracer-total-end
 part-tracer-total-end c = omega (arith, ends c)
 
 tracer-total-requires : tie.Need-tracer-total-requires
-tracer-total-requires c κs = let a = c.before.before.before.before.before.before.before.before.before.before.args in (small c.before.before.before.before.before.before.before, ap length (lent_is c.before) ∙ part_length quadratic a.shape a.tracer a.field.now c.before.before.before.if3.false (room c.before.before.before.before.before))
+tracer-total-requires c κs = let a = c.before.before.before.before.before.before.before.before.before.before.args in (small c.before.before.before.before.before.before.before, ap length (lent_is c.before) ∙ length-part quadratic a.shape a.tracer a.field.now c.before.before.before.if3.false (room c.before.before.before.before.before))
 
 returns-4 : tie.Need-returns-4
 returns-4 c =
