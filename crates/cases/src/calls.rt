@@ -3,7 +3,7 @@ use super::show;
 use rules::{Face, Shape, Way};
 
 // An element of a tracer.
-#[derive(Drop)]
+#[derive(Clone, Copy)]
 pub(crate) struct Place {
     pub(crate) tracer: usize,
     pub(crate) i: usize,

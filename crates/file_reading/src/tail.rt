@@ -5,7 +5,7 @@ ghost use Rattle.file_reading.specs.Reading.{tail_answer, tail_reply};
 use rules::{Refusal, Shape};
 
 // What the tail gives: the shape, or why there is none.
-#[derive(Drop)]
+#[derive(Clone, Copy)]
 pub(crate) enum Tail {
     Shape(Shape),
     Refused(Refusal),

@@ -21,7 +21,7 @@ const FIRST: usize = 3;
 const LINE: usize = FIRST + COLUMNS * WIDTH + 1;
 
 // A line of a block: its first one, or that of row j.
-#[derive(Drop)]
+#[derive(Clone, Copy)]
 pub(crate) enum BlockLine {
     Header,
     Row(usize),

@@ -16,7 +16,7 @@ use rules::{FileRead, Outcome, Reading, Refusal, Shape};
 const TEXT: usize = 200_000;
 
 // Lines in the buffer up to a place, or why there are none.
-#[derive(Drop)]
+#[derive(Clone, Copy)]
 pub(crate) enum Lines {
     UpTo(usize),
     Refused(Refusal),

@@ -7,7 +7,7 @@ ghost use Rattle.rules.specs.Answers.{number};
 pub mod element; // element.rt: the nodes of an element and their weights
 
 // The shape of a field: nx by ny elements, and how many tracers (document 01: smokes, K).
-#[derive(Drop)]
+#[derive(Clone, Copy)]
 pub struct Shape {
     pub nx: usize,
     pub ny: usize,
@@ -15,14 +15,14 @@ pub struct Shape {
 }
 
 // Which way a face looks from the element that owns it.
-#[derive(Drop)]
+#[derive(Clone, Copy)]
 pub enum Way {
     East,
     North,
 }
 
 // A wind call's record: the face of element (i, j) that looks `way`, and its new wind in 1/4096 element a step.
-#[derive(Drop)]
+#[derive(Clone, Copy)]
 pub struct Face {
     pub way: Way,
     pub i: usize,
@@ -31,14 +31,14 @@ pub struct Face {
 }
 
 // The numbers of a wind record that has both, in elements a step (document 02, 2026-01).
-#[derive(Drop)]
+#[derive(Clone, Copy)]
 pub struct WindPair {
     pub east: f64,
     pub north: f64,
 }
 
 // A wind record of the weather office, by its kind.
-#[derive(Drop)]
+#[derive(Clone, Copy)]
 pub enum WindRecord {
     // kind 0: no wind
     Calm,
@@ -49,7 +49,7 @@ pub enum WindRecord {
 }
 
 // Why a call was refused, in the order of the refusals' numbers.
-#[derive(Drop)]
+#[derive(Clone, Copy)]
 pub enum Refusal {
     // 1: the end of the file is not that of a field file
     NoFieldFile,
@@ -78,21 +78,21 @@ pub enum Refusal {
 }
 
 // The answer of a call that changes something.
-#[derive(Drop)]
+#[derive(Clone, Copy)]
 pub enum Outcome {
     Accepted,
     Refused(Refusal),
 }
 
 // The answer of a reading, and of file writing: a number.
-#[derive(Drop)]
+#[derive(Clone, Copy)]
 pub enum Reading {
     Number(u64),
     Refused(Refusal),
 }
 
 // The answer of file reading: the shape.
-#[derive(Drop)]
+#[derive(Clone, Copy)]
 pub enum FileRead {
     Found(Shape),
     Refused(Refusal),

@@ -11,21 +11,21 @@ use rules::{Refusal, WindPair, WindRecord};
 mod double; // double.rt: an f64 by its bits, and the wind that it becomes
 
 // What stands at a place: a record of finite numbers, or why there is none.
-#[derive(Drop)]
+#[derive(Clone, Copy)]
 pub enum Found {
     Record(WindRecord),
     Refused(Refusal),
 }
 
 // The winds of an element's east and north face.
-#[derive(Drop)]
+#[derive(Clone, Copy)]
 pub struct Winds {
     pub east: i16,
     pub north: i16,
 }
 
 // What a record gives its element: winds in range, or why it gives none.
-#[derive(Drop)]
+#[derive(Clone, Copy)]
 pub enum Imported {
     Winds(Winds),
     Refused(Refusal),
