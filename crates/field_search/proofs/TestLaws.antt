@@ -3,7 +3,6 @@ use mathlib.Core.Path.{◌≡◌, refl, sym, ◌∙◌}
 use mathlib.Core.Bool.{Bool, true, false, not}
 use Prim.Native.Nat.{ℕ, ◌+◌, ◌≤◌, ◌<◌}
 use native.Mathlib.Omega.{arith}
-use borrow.Author.Tests.{not-true, not-false}
 use Rattle.whole.specs.Sum.{all}
 use Rattle.whole.proofs.SumLaws.{all_more, all-fails}
 
@@ -17,11 +16,11 @@ module _ {f : ℕ → Bool} {n : ℕ} where
   unfolding all
   none_passed = record { within = omega arith; passed = refl }
 
-  pub next-passes : {k : ℕ} {r : Bool} → Passing f n k → k < n → r ≡ f k → not r ≡ false → Passing f n (k + 1)
-  next-passes {k} {r} h l e t = record { within = omega arith; passed = all_more k f h.passed (sym e ∙ not-false r t) }
+  pub next-passes : {k : ℕ} {r : Bool} → Passing f n k → k < n → r ≡ f k → r ≡ true → Passing f n (k + 1)
+  next-passes {k} {r} h l e t = record { within = omega arith; passed = all_more k f h.passed (sym e ∙ t) }
 
-  pub next-fails : {k : ℕ} {r : Bool} → Passing f n k → k < n → r ≡ f k → not r ≡ true → all n f ≡ false
-  next-fails {k} {r} h l e t = all-fails n f k l (sym e ∙ not-true r t)
+  pub next-fails : {k : ℕ} {r : Bool} → Passing f n k → k < n → r ≡ f k → r ≡ false → all n f ≡ false
+  next-fails {k} {r} h l e t = all-fails n f k l (sym e ∙ t)
 
   pub all-passed : {k : ℕ} → Passing f n k → n ≤ k → all n f ≡ true
   all-passed {k} h l = let e : k ≡ n = omega (arith, h.within) in rw e at h.passed
