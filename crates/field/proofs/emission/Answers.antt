@@ -1,0 +1,94 @@
+-- Emission: each refusal is the definition's by what the reading of the total says; an accepted one writes the element in place, which is
+-- the tracer's part with that element replaced.
+use mathlib.Core.Path.{◌≡◌, sym, ap, ◌∙◌}
+use mathlib.Core.Bool.{true}
+use Prim.Native.Nat.{◌≤◌, ◌+◌, ◌-◌}
+use native.Mathlib.Omega.{arith}
+use native.Mathlib.Nat.{add-sub_cancel_left}
+use lib.ListN.{length, take, drop}
+use Rattle.rules.specs.Answers.{accepted, reading}
+use Rattle.rules.specs.Field.{quadratic, on_grid, element, mass, part}
+use Rattle.rules.specs.Calls.{total_reading, emitted}
+use Rattle.field_layout.specs.Places.{Inside, element_start}
+use Rattle.field_layout.proofs.PlaceLaws.{element-ends}
+use Rattle.whole.proofs.OverwriteLaws.{part-size}
+use Rattle.rules.specs.Calls.{emission, done}
+use Rattle.rules.proofs.CallLaws.{length-emitted}
+use Rattle.rules.proofs.PartLaws.{mass-le-total}
+use Rattle.rules.proofs.GridLaws.{element-lt}
+use Rattle.field.proofs.CheckLaws.{found, inside, call-refused, call-accepted, emission-refused, emission-off-grid, emission-above, emission-accepted}
+use Rattle.field.proofs.InPlaceLaws.{mass-lent, emitted-lent, back-in-place}
+use Rattle.field.proofs.emission.Goals as goal
+use Rattle.field.proofs.emission.Goals.{After-element_start-start, After-emit-arg-1, Else-not-on_grid, In-Number}
+
+-- what the reading of the total says
+read : (c : In-Number) → total_reading quadratic c.args.shape c.args.tracer c.args.field.now ≡ accepted c.in-Number.sum
+read c = sym c.total-found.ensures ∙ ap reading c.in-Number.is
+
+pub returns-then-not-on_grid : goal.returns-then-not-on_grid
+returns-then-not-on_grid c = let a = c.args in call-refused a.shape a.tracer (emission a.i a.j a.q) a.field.now 8 (emission-off-grid a.shape a.tracer a.i a.j a.q a.field.now _ (read (goal.at.returns-then-not-on_grid c).In-Number) (sym c.on_grid.ensures ∙ c.if-not-on_grid.true))
+
+grid : (c : Else-not-on_grid) → on_grid c.args.shape c.args.i c.args.j ≡ true
+grid c = sym c.on_grid.ensures ∙ c.if-not-on_grid.false
+
+within : (c : Else-not-on_grid) → Inside c.args.shape c.args.tracer c.args.i c.args.j
+within c = let a = c.args in inside a.shape a.tracer a.i a.j a.field.now _ (read c.before.before) (grid c)
+
+pub overflow_sub-sum : goal.overflow_sub-sum
+overflow_sub-sum c = let a = c.args in (found a.shape a.tracer a.field.now _ (read (goal.at.overflow_sub-sum c).In-Number)).small
+
+pub returns-then-sum-q : goal.returns-then-sum-q
+returns-then-sum-q c =
+    let a = c.args in
+    let h = found a.shape a.tracer a.field.now _ (read (goal.at.returns-then-sum-q c).In-Number) in
+    call-refused a.shape a.tracer (emission a.i a.j a.q) a.field.now 9 (emission-above a.shape a.tracer a.i a.j a.q a.field.now _ (read (goal.at.returns-then-sum-q c).In-Number) (grid (goal.at.returns-then-sum-q c).Else-not-on_grid) (omega (arith, c.if-sum-q.true, h.small)))
+
+pub element_start-start-requires : goal.element_start-start-requires
+element_start-start-requires c = within (goal.at.element_start-start-requires c).Else-not-on_grid
+
+-- the element ends within the field
+ends : (c : After-element_start-start) → (c.element_start-start.result + 10 ≤ length c.args.field.now) × (c.element_start-start.result + 10 ≤ 327680)
+ends c =
+    let a = c.args in
+    element-ends a.shape a.tracer a.i a.j (within c.before.before) _ (found a.shape a.tracer a.field.now _ (read c.before.before.before.before)).room _ c.element_start-start.ensures
+
+pub overflow_add-end : goal.overflow_add-end
+overflow_add-end c = record { fits = omega (arith, ends (goal.at.overflow_add-end c).After-element_start-start) }
+
+pub offset_bounds-field-start : goal.offset_bounds-field-start
+offset_bounds-field-start c = omega (arith, ends (goal.at.offset_bounds-field-start c).After-element_start-start)
+
+pub slice_bounds-emit-end : goal.slice_bounds-emit-end
+slice_bounds-emit-end c = omega (arith, ends (goal.at.slice_bounds-emit-end c).After-element_start-start)
+
+-- what is lent holds the element's mass
+lent-mass : (c : After-emit-arg-1) → mass quadratic (take (c.element_start-start.result + 10 - c.element_start-start.result) (drop c.element_start-start.result c.args.field.now)) 0 ≡ mass quadratic (part quadratic c.args.shape c.args.tracer c.args.field.now) (element c.args.shape c.args.i c.args.j)
+lent-mass c =
+    let a = c.args in
+    let st = element_start a.shape a.tracer a.i a.j in
+    rw c.element_start-start.ensures (mass-lent a.shape a.tracer a.i a.j a.field.now (within c.before.before.before) (found a.shape a.tracer a.field.now _ (read c.before.before.before.before.before)).room (st + 10 - st) (add-sub_cancel_left st 10))
+
+pub emit-requires : goal.emit-requires
+emit-requires c =
+    let r = c.element_start-start.result in
+    let a = c.args in
+    let h = found a.shape a.tracer a.field.now _ (read (goal.at.emit-requires c).In-Number) in
+    let w = within (goal.at.emit-requires c).Else-not-on_grid in
+    record { part_len = part-size 10 r (r + 10 - r) a.field.now (add-sub_cancel_left r 10) (ends (goal.at.emit-requires c).After-element_start-start).0; q_bound = omega (arith, lent-mass (goal.at.emit-requires c).After-emit-arg-1, mass-le-total quadratic a.shape (part quadratic a.shape a.tracer a.field.now) (element a.shape a.i a.j) (element-lt a.shape a.i a.j w.column w.row), h.sum, h.small, c.if-sum-q.false) }
+
+pub returns-in-Refused : goal.returns-in-Refused
+returns-in-Refused c = let a = c.args in call-refused a.shape a.tracer (emission a.i a.j a.q) a.field.now _ (emission-refused a.shape a.tracer a.i a.j a.q a.field.now _ (sym c.total-found.ensures ∙ ap reading c.in-Refused.is))
+
+pub returns-else-sum-q : goal.returns-else-sum-q
+unfolding done
+returns-else-sum-q c =
+    let a = c.args in
+    let st = element_start a.shape a.tracer a.i a.j in
+    let h = found a.shape a.tracer a.field.now _ (read (goal.at.returns-else-sum-q c).In-Number) in
+    let w = within (goal.at.returns-else-sum-q c).Else-not-on_grid in
+    let e = call-accepted a.shape a.tracer (emission a.i a.j a.q) a.field.now _ (emission-accepted a.shape a.tracer a.i a.j a.q a.field.now _ (read (goal.at.returns-else-sum-q c).In-Number) (grid (goal.at.returns-else-sum-q c).Else-not-on_grid) (omega (arith, c.if-sum-q.false, h.small))) in
+    let k = st + 10 - st in
+    let ten-is = add-sub_cancel_left st 10 in
+    let x : c.emit.new.part ≡ emitted quadratic (element a.shape a.i a.j) a.q (part quadratic a.shape a.tracer a.field.now) =
+    c.emit.ensures ∙ (rw c.element_start-start.ensures (emitted-lent a.shape a.tracer a.i a.j a.field.now w h.room k ten-is a.q)) in
+    (e.0, (rw c.element_start-start.ensures (back-in-place a.shape a.tracer a.i a.j a.field.now w h.room k ten-is _ _ x (length-emitted quadratic (element a.shape a.i a.j) a.q (part quadratic a.shape a.tracer a.field.now)))) ∙ e.1)
