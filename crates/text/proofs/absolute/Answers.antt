@@ -4,7 +4,6 @@ use mathlib.Core.Bool.{true, false}
 use Prim.Native.Nat.{ℕ, suc}
 use native.Mathlib.Nat.{zero-add}
 use native.Mathlib.Omega.{arith}
-use borrow.Author.Rules.{rules}
 use borrow.Author.Tests.{ltb-true}
 use lib.Dec.{T}
 use lib.IntN.{ℤ, pos, negsuc, nat_abs, ◌-ℤ◌}
@@ -12,8 +11,7 @@ use lib.Signed.{lt_z, non_neg}
 use mir.Syntax.{w32, w64}
 use mir.Val.{SFits, Fits}
 use mir.Facts.{to_z-of_z}
-use Rattle.text.proofs.absolute.Statement.{statement}
-use Rattle.text.proofs.absolute.Tie as tie
+use Rattle.text.proofs.absolute.Goals as goal
 
 wide : (z : ℤ) → SFits w32 z → SFits w64 z
 wide z f = record { sfits = omega (arith, f.sfits) }
@@ -35,31 +33,27 @@ above : (z : ℤ) → SFits w32 z → lt_z z (pos 0) ≡ false → T (non_neg z)
 above (pos a) f h = (tt, record { fits = omega (arith, f.sfits) })
 above (negsuc a) f h = let x : ◌≡◌ {A = ℕ} 0 1 = cc in absurd (omega arith)
 
-cast-result : tie.Need-overflow-cast-result
-cast-result c = rw (to_z-of_z c.before.ranges.z) (wide _ c.before.ranges.z)
+pub overflow_cast-result : goal.overflow_cast-result
+overflow_cast-result c = rw (to_z-of_z c.ranges.z) (wide _ c.ranges.z)
 
-sub-result : tie.Need-overflow-sub-result
-sub-result c =
-    let f = c.before.ranges.z in
-    rw (to_z-of_z f, to_z-of_z (wide _ f)) (negated _ f (rw (to_z-of_z f) at c.if1.true))
+pub overflow_sub-result : goal.overflow_sub-result
+overflow_sub-result c =
+    let f = c.ranges.z in
+    rw (to_z-of_z f, to_z-of_z (wide _ f)) (negated _ f (rw (to_z-of_z f) at c.if-z-lt0.true))
 
-cast-result-2 : tie.Need-overflow-cast-result-2
-cast-result-2 c =
-    let f = c.before.ranges.z in
-    let h = rw (to_z-of_z f) at c.if1.true in
+pub overflow_cast-result-then-z-lt0 : goal.overflow_cast-result-then-z-lt0
+overflow_cast-result-then-z-lt0 c =
+    let f = c.ranges.z in
+    let h = rw (to_z-of_z f) at c.if-z-lt0.true in
     rw (to_z-of_z f, to_z-of_z (wide _ f), to_z-of_z (negated _ f h)) (below _ f h)
 
-cast-result-3 : tie.Need-overflow-cast-result-3
-cast-result-3 c =
-    let f = c.before.ranges.z in
-    rw (to_z-of_z f) (above _ f (rw (to_z-of_z f) at c.if1.false))
+pub overflow_cast-result-else-z-lt0 : goal.overflow_cast-result-else-z-lt0
+overflow_cast-result-else-z-lt0 c =
+    let f = c.ranges.z in
+    rw (to_z-of_z f) (above _ f (rw (to_z-of_z f) at c.if-z-lt0.false))
 
-returns : tie.Need-returns
-returns c =
-    let f = c.before.ranges.z in
-    let h = rw (to_z-of_z f) at c.if1.true in
-    rw (to_z-of_z f, to_z-of_z (wide _ f), to_z-of_z (negated _ f h)) (same_size c.before.args.z h)
-
-pub absolute-spec : {M : Type 1} → statement M
-absolute-spec =
-    tie.close (tie.spec cast-result sub-result cast-result-2 cast-result-3 returns (λ c. search rules))
+pub returns-then-z-lt0 : goal.returns-then-z-lt0
+returns-then-z-lt0 c =
+    let f = c.ranges.z in
+    let h = rw (to_z-of_z f) at c.if-z-lt0.true in
+    rw (to_z-of_z f, to_z-of_z (wide _ f), to_z-of_z (negated _ f h)) (same_size c.args.z h)
