@@ -1,0 +1,7 @@
+use mathlib.Core.Path.{refl}
+use Rattle.rules.specs.Map.{block_count}
+use Rattle.map_lines.proofs.block_count.Goals as goal
+
+pub returns : goal.returns
+unfolding block_count
+returns c = refl
