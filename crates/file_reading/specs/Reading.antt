@@ -6,7 +6,6 @@ use Rattle.rules.specs.Field.{quadratic, admitted, faces, field_length}
 use Rattle.rules.specs.Calls.{wind_sound}
 use Rattle.rules.specs.FieldFile.{tail_shape, tail_right, offsets_right, file_wind, file_field, field_sound}
 use Rattle.file_reading.specs.declared.tail.Tail.{Tail}
-use Rattle.file_reading.specs.declared.tail.Tail.TheVariants as Tail
 
 -- each case of the tail's answer, in the paper's numbers and values
 abbrev pub tail_answer : Tail → Answer Shape
