@@ -1,13 +1,15 @@
 // Printing, and comparing a buffer with what it was.
-use libc::STDOUT_FILENO;
 use rules::{Outcome, Reading, Refusal};
 
+// The number of standard output.
+const STDOUT: i32 = 1;
+
 pub(crate) fn text(bytes: &[u8]) {
-    io::write_all(STDOUT_FILENO, bytes);
+    io::write_all(STDOUT, bytes);
 }
 
 pub(crate) fn number(n: u64) {
-    io::print_decimal(STDOUT_FILENO, n);
+    io::print_decimal(STDOUT, n);
 }
 
 // A line's front: which call, and what is at the edge.

@@ -2,37 +2,26 @@
 // expected output was written by the reference program.
 #![tactic(auto)]
 
-use libc::STDOUT_FILENO;
+use std::io::Write;
+use std::{env, fs, io};
 
 // One file: its name on a line, its lines after a step, and its pages.
-fn show(name: &[u8]) {
+fn show(rt: &HostRuntime, name: &str) -> io::Result<()> {
     let mut file = [0u8; 65537];
     let mut out = [0u8; 200000];
-    let fd = os::open_read(name);
-    if fd < 0 {
-        os::fail(name);
-        return;
-    }
-    let n = io::read_full(fd, &mut file);
-    libc::close(fd);
+    let n = program_input::fill(&mut fs::open(rt, name)?, &mut file)?;
+    let mut printed = rt.stdout();
+    printed.write_all(name.as_bytes())?;
+    printed.write_all(b"\n")?;
     let end = output::print(&file[..n], &mut out);
-    io::write_all(STDOUT_FILENO, name);
-    io::write_all(STDOUT_FILENO, b"\n");
-    io::write_all(STDOUT_FILENO, &out[..end]);
+    printed.write_all(&out[..end])?;
     let pages = output_maps::print(&file[..n], &mut out);
-    io::write_all(STDOUT_FILENO, &out[..pages]);
+    printed.write_all(&out[..pages])
 }
 
-// The file that argument i names.
-fn named(i: usize) {
-    let mut name = io::buffer();
-    let n = os::arg(i, &mut name);
-    show(&name[..n]);
-}
-
-fn main() {
-    let count = os::arg_count();
-    for i in 1..count {
-        named(i);
+fn main(rt: HostRuntime) -> io::Result<()> {
+    for name in env::args(&rt)?.skip(1) {
+        show(&rt, name.as_str())?;
     }
+    Ok(())
 }
