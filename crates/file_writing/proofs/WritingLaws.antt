@@ -18,7 +18,6 @@ use Rattle.rules.proofs.PartLaws.{length-part}
 use Rattle.field_search.specs.Search.{searched}
 use Rattle.rules.specs.declared.Refusal.{Refusal}
 use Rattle.rules.specs.declared.Reading.{Reading}
-use Rattle.rules.specs.declared.Reading.TheVariants as Reading
 use Rattle.rules.specs.Answers.{number, reading}
 use Rattle.field_search.proofs.SearchLaws.{searched-yes, searched-no}
 use Rattle.field_layout.proofs.PlaceLaws.{tracer-room, field_is, field-le}
