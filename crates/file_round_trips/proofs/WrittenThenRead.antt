@@ -19,7 +19,6 @@ use Rattle.rules.specs.Field.{Kind, admitted, faces, field_length}
 use Rattle.rules.specs.Calls.{wind_at, wind_sound}
 use Rattle.rules.specs.Bytes.{byte_at, bytes32, number32, bytes16, number16}
 use Rattle.rules.specs.FieldFile.{section_start, table_start, file_length, mark, file_of, tail_shape, tail_right, file_wind, offsets_right, file_field, field_sound, read_reply, read_field, read_wind, write_reply, write_file}
-use Rattle.rules.proofs.ShapeLaws.{ranges}
 use Rattle.file_round_trips.specs.RoundTrips.{WrittenIsRead}
 use Rattle.file_layout.proofs.NumberLaws.{code32, code16}
 use Rattle.file_layout.proofs.SectionLaws.{numbers-read}

@@ -4,9 +4,7 @@ use Rattle.std.specs.Prelude.{◌≡◌, List, ℕ, ℤ, length, take}
 use Rattle.whole.specs.Table.{overwrite}
 use Rattle.rules.specs.declared.Shape.{Shape}
 use Rattle.rules.specs.declared.Reading.{Reading}
-use Rattle.rules.specs.declared.Reading.TheVariants as Reading
 use Rattle.rules.specs.declared.FileRead.{FileRead}
-use Rattle.rules.specs.declared.FileRead.TheVariants as FileRead
 use Rattle.rules.specs.Answers.{accepted}
 use Rattle.rules.specs.Field.{Kind, quadratic, faces, field_length}
 use Rattle.rules.specs.FieldFile.{read_reply, read_field, read_wind, write_reply, write_file}
