@@ -3,10 +3,8 @@ use Rattle.std.specs.Prelude.{cond, List, ℕ, leb, ℤ, pos, neg_ℤ, nat_abs}
 use Rattle.rules.specs.Answers.{Answer, accepted, refused, number}
 use Rattle.rules.specs.WindRecords.{sign_bit, face_wind, Components, components, components_at, east_at, north_at}
 use Rattle.wind_records.specs.declared.Found.{Found}
-use Rattle.wind_records.specs.declared.Found.TheVariants as Found
 use Rattle.wind_records.specs.declared.Winds.{Winds}
 use Rattle.wind_records.specs.declared.Imported.{Imported}
-use Rattle.wind_records.specs.declared.Imported.TheVariants as Imported
 
 -- the size of the wind that an f64 of these bits becomes, or 4096 where it is larger; and that wind. It is out of range where the wind itself is
 unfoldable pub capped_size : ℕ → ℕ
