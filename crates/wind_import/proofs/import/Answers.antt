@@ -1,0 +1,48 @@
+-- The import: 2 and 4, then what the first walk answered; where that is acceptance, the second walk leaves the records' winds.
+use mathlib.Core.Path.{◌≡◌, sym, ap, ◌∙◌}
+use mathlib.Core.Bool.{true}
+use Prim.Native.Nat.{◌≤◌}
+use native.Mathlib.Omega.{arith}
+use lib.ListN.{length}
+use Rattle.rules.specs.Answers.{accepted, outcome}
+use Rattle.rules.specs.Field.{admitted, faces}
+use Rattle.rules.proofs.ShapeLaws.{admitted-is, elements-le}
+use Rattle.wind_import.proofs.ImportLaws.{records_reply, import-2, import-4, import-refused, import-done}
+use Rattle.wind_import.proofs.import.Goals as goal
+use Rattle.wind_import.proofs.import.Goals.{Else-not-admitted, Else-wind-faces, In-Accepted}
+
+-- what each passed test says
+shape : (c : Else-not-admitted) → admitted c.args.shape ≡ true
+shape c = sym c.admitted.ensures ∙ c.if-not-admitted.false
+
+room : (c : Else-wind-faces) → faces c.args.shape ≤ length c.args.wind.now
+room c = omega (arith, c.faces.ensures)
+
+pub returns-then-not-admitted : goal.returns-then-not-admitted
+returns-then-not-admitted c = import-2 _ _ _ (sym c.admitted.ensures ∙ c.if-not-admitted.true)
+
+pub faces-requires : goal.faces-requires
+faces-requires c = admitted-is _ (shape (goal.at.faces-requires c).Else-not-admitted)
+
+pub returns-then-wind-faces : goal.returns-then-wind-faces
+returns-then-wind-faces c = import-4 _ _ _ (shape (goal.at.returns-then-wind-faces c).Else-not-admitted) (omega (arith, c.faces.ensures))
+
+pub elements-n-requires : goal.elements-n-requires
+elements-n-requires c = admitted-is _ (shape (goal.at.elements-n-requires c).Else-not-admitted)
+
+-- the first walk has accepted
+all-passed : (c : In-Accepted) → accepted tt ≡ records_reply c.args.records.now c.elements-n.result
+all-passed c = sym (ap outcome c.in-Accepted.is) ∙ c.check-checked.ensures
+
+pub lay-requires : goal.lay-requires
+lay-requires c =
+    let g = c.args.shape in
+    record { tt_value = all-passed (goal.at.lay-requires c).In-Accepted; n_le_most_elements = omega (arith, c.elements-n.ensures, elements-le g (admitted-is g (shape (goal.at.lay-requires c).Else-not-admitted))); n_in_bounds = omega (arith, c.elements-n.ensures, room (goal.at.lay-requires c).Else-wind-faces) }
+
+pub returns-in-Refused : goal.returns-in-Refused
+returns-in-Refused c =
+    import-refused _ _ _ (shape (goal.at.returns-in-Refused c).Else-not-admitted) (room (goal.at.returns-in-Refused c).Else-wind-faces) _ c.elements-n.ensures _ (sym (ap outcome c.in-Refused.is) ∙ c.check-checked.ensures)
+
+pub returns-in-Accepted : goal.returns-in-Accepted
+returns-in-Accepted c =
+    import-done _ _ _ (shape (goal.at.returns-in-Accepted c).Else-not-admitted) (room (goal.at.returns-in-Accepted c).Else-wind-faces) _ c.elements-n.ensures (all-passed (goal.at.returns-in-Accepted c).In-Accepted) _ c.lay.ensures
