@@ -1,0 +1,10 @@
+-- All pages: after s turns those of the first s tracers.
+use Prim.Native.Nat.{◌≤◌, ◌*◌, ◌-◌}
+use Rattle.whole.specs.Table.{blocks}
+use Rattle.rules.specs.Field.{quadratic, part}
+use Rattle.rules.specs.Map.{page_text, page_length}
+use Rattle.text.specs.Added.{Added}
+use Rattle.output_maps.proofs.pages.Given as goal
+
+abbrev pub invariant-loop-s : goal.invariant-loop-s
+invariant-loop-s l = (l.s ≤ l.count) × Added (l.s * page_length l.shape) 0 (blocks l.s (λ k. page_text quadratic l.shape (part quadratic l.shape k l.field))) l.initial.out l.out l.end
