@@ -1,0 +1,12 @@
+use mathlib.Core.Path.{sym, ap, subst, ◌∙◌}
+use mir.Syntax.{w64}
+use Rattle.whole.proofs.Sizes.{read_back}
+use Rattle.c_numbers.specs.Numbers.{number_or, Small}
+use Rattle.plume_c.proofs.Laws.{map-answers}
+use Rattle.plume_c.proofs.plume_map.Goals as goal
+
+pub number_or-requires : goal.number_or-requires
+number_or-requires c = subst Small (sym c.map.ensures.0) (map-answers _ _ _ _)
+
+pub returns : goal.returns
+returns c = let d = c.map.ensures in (read_back w64 c.number_or.ensures tt ∙ ap number_or d.0, d.1)
