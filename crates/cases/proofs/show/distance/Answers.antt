@@ -3,7 +3,6 @@ use mathlib.Core.Path.{◌≡◌}
 use mathlib.Core.Bool.{true, false}
 use Prim.Native.Nat.{ℕ}
 use native.Mathlib.Omega.{arith}
-use borrow.Author.Rules.{rules}
 use borrow.Author.Tests.{ltb-true}
 use lib.Dec.{T}
 use lib.IntN.{ℤ, pos, negsuc, nat_abs, ◌-ℤ◌}
@@ -11,8 +10,7 @@ use lib.Signed.{lt_z, non_neg}
 use mir.Syntax.{w16, w64}
 use mir.Val.{SFits, Fits}
 use mir.Facts.{to_z-of_z}
-use Rattle.cases.proofs.show.distance.Statement.{statement}
-use Rattle.cases.proofs.show.distance.Tie as tie
+use Rattle.cases.proofs.show.distance.Goals as goal
 
 wider : (z : ℤ) → SFits w16 z → SFits w64 z
 wider z f = record { sfits = omega (arith, f.sfits) }
@@ -29,25 +27,21 @@ above : (z : ℤ) → SFits w16 z → lt_z z (pos 0) ≡ false → T (non_neg z)
 above (pos a) f h = (tt, record { fits = omega (arith, f.sfits) })
 above (negsuc a) f h = let x : ◌≡◌ {A = ℕ} 0 1 = cc in absurd (omega arith)
 
-cast-result : tie.Need-overflow-cast-result
-cast-result c = rw (to_z-of_z c.before.ranges.c) (wider _ c.before.ranges.c)
+pub overflow_cast-result : goal.overflow_cast-result
+overflow_cast-result c = rw (to_z-of_z c.ranges.c) (wider _ c.ranges.c)
 
-sub-result : tie.Need-overflow-sub-result
-sub-result c =
-    let f = c.before.ranges.c in
-    rw (to_z-of_z f, to_z-of_z (wider _ f)) (negated _ f (rw (to_z-of_z f) at c.if1.true))
+pub overflow_sub-result : goal.overflow_sub-result
+overflow_sub-result c =
+    let f = c.ranges.c in
+    rw (to_z-of_z f, to_z-of_z (wider _ f)) (negated _ f (rw (to_z-of_z f) at c.if-c-lt0.true))
 
-cast-result-2 : tie.Need-overflow-cast-result-2
-cast-result-2 c =
-    let f = c.before.ranges.c in
-    let h = rw (to_z-of_z f) at c.if1.true in
+pub overflow_cast-result-then-c-lt0 : goal.overflow_cast-result-then-c-lt0
+overflow_cast-result-then-c-lt0 c =
+    let f = c.ranges.c in
+    let h = rw (to_z-of_z f) at c.if-c-lt0.true in
     rw (to_z-of_z f, to_z-of_z (wider _ f), to_z-of_z (negated _ f h)) (below _ f h)
 
-cast-result-3 : tie.Need-overflow-cast-result-3
-cast-result-3 c =
-    let f = c.before.ranges.c in
-    rw (to_z-of_z f) (above _ f (rw (to_z-of_z f) at c.if1.false))
-
-pub distance-spec : {M : Type 1} → statement M
-distance-spec =
-    tie.close (tie.spec cast-result sub-result cast-result-2 cast-result-3 (λ c. search rules) (λ c. search rules))
+pub overflow_cast-result-else-c-lt0 : goal.overflow_cast-result-else-c-lt0
+overflow_cast-result-else-c-lt0 c =
+    let f = c.ranges.c in
+    rw (to_z-of_z f) (above _ f (rw (to_z-of_z f) at c.if-c-lt0.false))
