@@ -1,9 +1,9 @@
 //! Links the static library into the binaries that call it. PLUME_LIBRARY names another file to link instead of the one that
-//! `rt staticlib plume_c` writes.
+//! `tools/library` builds.
 fn main() {
     let root = std::env::var("CARGO_MANIFEST_DIR").expect("cargo sets it");
     let library = std::env::var("PLUME_LIBRARY")
-        .unwrap_or_else(|_| format!("{root}/../target/staticlib/libplume_c.a"));
+        .unwrap_or_else(|_| format!("{root}/../crates/plume_c/out/libplume_c.a"));
     for binary in ["calls", "doubles"] {
         println!("cargo:rustc-link-arg-bin={binary}={library}");
     }

@@ -13,7 +13,6 @@ use lib.ListN.{length, get_or, get_or-eq_default}
 use lib.Signed.{non_neg, ◌≤ℤ◌}
 use Rattle.whole.specs.Bound.{Within}
 use Rattle.whole.specs.Parts.{positive, negative}
-use Rattle.whole.specs.Sum.{all}
 use Rattle.whole.specs.Table.{table, blocks, overwrite, at}
 use Rattle.whole.specs.Written.{Written}
 use lib.Arith.{digits_div, digits_mod}

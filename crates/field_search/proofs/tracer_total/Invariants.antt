@@ -1,5 +1,5 @@
 -- The search of the part: `SearchLaws` says what each turn keeps and what both ways out say, of the list of the part's numbers.
-use Prim.Native.Nat.{◌≤◌, ◌-◌, ◌+◌, ◌*◌}
+use Prim.Native.Nat.{◌≤◌, ◌+◌, ◌*◌}
 use Rattle.field_search.proofs.SearchLaws.{BetweenElements, WithinElement}
 use Rattle.field_search.proofs.tracer_total.Given as goal
 

@@ -1,4 +1,3 @@
-use Prim.Native.Nat.{◌-◌}
 use Rattle.rules.specs.Field.{wind_in_range}
 use Rattle.rules.specs.Calls.{wind_at}
 use Rattle.field_search.proofs.TestLaws.{Passing}

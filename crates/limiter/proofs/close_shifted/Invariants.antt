@@ -2,9 +2,8 @@
 -- remainder fit.
 use mathlib.Core.Path.{◌≡◌}
 use mathlib.Core.List.{◌++◌}
-use Prim.Native.Nat.{◌≤◌, ◌-◌, ◌+◌}
+use Prim.Native.Nat.{◌≤◌}
 use lib.ListN.{length, drop}
-use Rattle.whole.specs.Sum.{sum}
 use Rattle.whole.specs.Table.{table}
 use Rattle.limiter.proofs.Laws.{new_value, weighted_to}
 use Rattle.limiter.proofs.close_shifted.Given as goal

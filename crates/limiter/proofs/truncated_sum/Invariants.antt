@@ -1,7 +1,6 @@
 -- After k turns the sum is the weighted sum of the first k truncated values, by one law for a turn.
 use mathlib.Core.Path.{◌≡◌}
-use Prim.Native.Nat.{◌≤◌, ◌-◌}
-use Rattle.whole.specs.Sum.{sum}
+use Prim.Native.Nat.{◌≤◌}
 use Rattle.limiter.proofs.Laws.{cut_value, weighted_to}
 use Rattle.limiter.proofs.truncated_sum.Given as goal
 

@@ -1,5 +1,5 @@
 -- After k turns the sum is that of the first k weighted values; its size is bounded over their number.
-use Prim.Native.Nat.{◌≤◌, ◌-◌, ◌*◌}
+use Prim.Native.Nat.{◌≤◌, ◌*◌}
 use Rattle.whole.specs.Bound.{Are}
 use Rattle.whole.specs.Sum.{sum_ℤ}
 use Rattle.rules.specs.Sizes.{tentative_size}

@@ -1,5 +1,5 @@
 -- A line: what comes first, after c turns c of its columns, and the newline.
-use Prim.Native.Nat.{◌≤◌, ◌+◌, ◌*◌, ◌-◌}
+use Prim.Native.Nat.{◌≤◌, ◌+◌, ◌*◌}
 use Rattle.whole.specs.Table.{blocks}
 use Rattle.rules.specs.Field.{quadratic, part}
 use Rattle.rules.specs.Map.{column_text}

@@ -1,5 +1,4 @@
 use mathlib.Core.Path.{◌≡◌, refl, ◌∙◌}
-use Prim.Native.Nat.{◌-◌}
 use native.Mathlib.Omega.{arith}
 use Rattle.text.proofs.AddedLaws.{added-room}
 use Rattle.output.proofs.Laws.{tracers-none, tracers-next, room-left, all-refused, added_of, all-added}

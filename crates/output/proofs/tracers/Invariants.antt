@@ -1,6 +1,6 @@
 -- All tracers: after s of them their lines stand behind the line of the grid, and the field is what their steps left.
 use mathlib.Core.Path.{◌≡◌}
-use Prim.Native.Nat.{◌-◌, ◌≤◌}
+use Prim.Native.Nat.{◌≤◌}
 use lib.ListN.{length}
 use Rattle.output.proofs.Laws.{TracersAdded}
 use Rattle.output.proofs.tracers.Given as goal

@@ -1,5 +1,4 @@
 use mathlib.Core.Path.{◌≡◌}
-use Prim.Native.Nat.{◌-◌}
 use native.Mathlib.Omega.{arith}
 use Rattle.rules.specs.Map.{page_length}
 use Rattle.text.proofs.AddedLaws.{added-length, blocks-none, block_room, block_more}

@@ -1,5 +1,5 @@
 -- All pages: after s turns those of the first s tracers.
-use Prim.Native.Nat.{◌≤◌, ◌*◌, ◌-◌}
+use Prim.Native.Nat.{◌≤◌, ◌*◌}
 use Rattle.whole.specs.Table.{blocks}
 use Rattle.rules.specs.Field.{quadratic, part}
 use Rattle.rules.specs.Map.{page_text, page_length}

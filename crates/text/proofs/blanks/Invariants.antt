@@ -1,5 +1,5 @@
 -- Blanks, one at a turn: after k turns k of them stand in the buffer.
-use Prim.Native.Nat.{◌≤◌, ◌+◌, ◌*◌, ◌-◌}
+use Prim.Native.Nat.{◌≤◌, ◌+◌, ◌*◌}
 use Rattle.whole.specs.Table.{blocks}
 use Rattle.rules.specs.Text.{space}
 use Rattle.text.specs.Added.{Added}

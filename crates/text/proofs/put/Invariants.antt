@@ -1,6 +1,6 @@
 -- A word is copied byte by byte: after k bytes the buffer has the word's first k from its place on.
 use mathlib.Core.Path.{◌≡◌}
-use Prim.Native.Nat.{◌≤◌, ◌+◌, ◌*◌, ◌-◌}
+use Prim.Native.Nat.{◌≤◌, ◌+◌, ◌*◌}
 use lib.ListN.{length}
 use Rattle.whole.specs.Table.{blocks}
 use Rattle.text.specs.Added.{Added}

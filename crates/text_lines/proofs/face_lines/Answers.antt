@@ -1,5 +1,5 @@
 use mathlib.Core.Path.{◌≡◌}
-use Prim.Native.Nat.{◌*◌, ◌-◌}
+use Prim.Native.Nat.{◌*◌}
 use native.Mathlib.Omega.{arith}
 use Rattle.rules.specs.Program.{face_row, face_lines}
 use Rattle.text.proofs.AddedLaws.{added-length, blocks-none, block_room, block_more}

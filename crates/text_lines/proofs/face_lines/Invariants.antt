@@ -1,4 +1,4 @@
-use Prim.Native.Nat.{◌≤◌, ◌*◌, ◌-◌}
+use Prim.Native.Nat.{◌≤◌, ◌*◌}
 use Rattle.whole.specs.Table.{blocks}
 use Rattle.rules.specs.Program.{face_row}
 use Rattle.text.specs.Added.{Added}

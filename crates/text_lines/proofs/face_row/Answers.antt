@@ -1,5 +1,5 @@
 use mathlib.Core.Path.{◌≡◌, ap}
-use Prim.Native.Nat.{◌<◌, ◌+◌, ◌-◌}
+use Prim.Native.Nat.{◌<◌, ◌+◌}
 use native.Mathlib.Omega.{arith}
 use mir.Facts.{to_z-of_z}
 use mir.Syntax.{w32}

@@ -1,5 +1,5 @@
 -- A row of faces: after i of them their lines stand in the buffer, each read from its place in the report.
-use Prim.Native.Nat.{◌≤◌, ◌*◌, ◌-◌}
+use Prim.Native.Nat.{◌≤◌, ◌*◌}
 use Rattle.whole.specs.Table.{blocks}
 use Rattle.text.specs.Added.{Added}
 use Rattle.text_lines.proofs.RowLaws.{line_from}

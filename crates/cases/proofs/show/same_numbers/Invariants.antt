@@ -1,6 +1,6 @@
 -- Safe, and ends: each index is below both lengths, which are equal.
 use mathlib.Core.Path.{◌≡◌}
-use Prim.Native.Nat.{◌≤◌, ◌-◌}
+use Prim.Native.Nat.{◌≤◌}
 use lib.ListN.{length}
 use Rattle.cases.proofs.show.same_numbers.Given as goal
 

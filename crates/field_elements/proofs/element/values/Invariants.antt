@@ -1,4 +1,3 @@
-use Prim.Native.Nat.{◌-◌}
 use lib.IntN.{pos}
 use lib.ListN.{get_or}
 use Rattle.field_elements.proofs.FillLaws.{Filled}

@@ -1,6 +1,5 @@
 use mathlib.Core.Path.{◌≡◌}
-use Prim.Native.Nat.{◌≤◌, ◌-◌, ◌*◌, ◌^◌}
-use Rattle.whole.specs.Sum.{sum}
+use Prim.Native.Nat.{◌≤◌, ◌*◌, ◌^◌}
 use Rattle.rules.specs.Field.{quadratic}
 use Rattle.field_elements.specs.Weighing.{weighed}
 use Rattle.field_elements.proofs.element.weigh.Given as goal

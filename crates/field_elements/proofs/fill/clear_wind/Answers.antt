@@ -1,5 +1,4 @@
 use mathlib.Core.Path.{refl}
-use Prim.Native.Nat.{◌-◌}
 use native.Mathlib.Omega.{arith}
 use Rattle.field_elements.proofs.FillLaws.{filled_none, filled_next, filled-same}
 use Rattle.field_elements.proofs.fill.clear_wind.Goals as goal

@@ -1,4 +1,3 @@
-use Prim.Native.Nat.{◌-◌}
 use lib.IntN.{pos}
 use Rattle.field_elements.proofs.FillLaws.{Filled}
 use Rattle.field_elements.proofs.fill.clear_wind.Given as goal

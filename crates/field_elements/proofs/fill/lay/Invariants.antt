@@ -1,5 +1,5 @@
 use mathlib.Core.Path.{◌≡◌}
-use Prim.Native.Nat.{◌-◌, ◌*◌}
+use Prim.Native.Nat.{◌*◌}
 use Rattle.rules.specs.Field.{quadratic}
 use Rattle.rules.specs.Calls.{loaded_element}
 use Rattle.field_elements.proofs.FillLaws.{BlocksFilled}

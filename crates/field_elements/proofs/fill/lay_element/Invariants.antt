@@ -1,4 +1,3 @@
-use Prim.Native.Nat.{◌-◌}
 use lib.ListN.{get_or}
 use Rattle.field_elements.proofs.FillLaws.{Filled}
 use Rattle.field_elements.proofs.fill.lay_element.Given as goal

@@ -1,5 +1,5 @@
 use mathlib.Core.Path.{◌≡◌}
-use Prim.Native.Nat.{◌≤◌, ◌-◌, ◌*◌}
+use Prim.Native.Nat.{◌≤◌, ◌*◌}
 use Rattle.whole.specs.Sum.{sum}
 use Rattle.rules.specs.Field.{quadratic, weighted}
 use Rattle.rules.specs.Calls.{loaded_value}

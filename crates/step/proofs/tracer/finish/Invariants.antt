@@ -1,7 +1,7 @@
 -- Every element is closed: the invariant is the part's new elements as far as the turn's one, one block of ten numbers each.
 use mathlib.Core.Path.{◌≡◌}
 use mathlib.Core.List.{◌++◌}
-use Prim.Native.Nat.{◌≤◌, ◌-◌, ◌+◌, ◌*◌}
+use Prim.Native.Nat.{◌≤◌, ◌+◌, ◌*◌}
 use lib.ListN.{drop}
 use Rattle.whole.specs.Table.{blocks}
 use Rattle.step.specs.Finish.{new_element}
