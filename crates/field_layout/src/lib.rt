@@ -39,11 +39,14 @@ pub fn on_grid(shape: Shape, i: usize, j: usize) -> bool
     if i < shape.nx { j < shape.ny } else { false }
 }
 
+// The least wind number.
+const LEAST_WIND: i16 = -1024;
+
 // Whether a wind number is from -1024 to 1024.
 pub fn wind_in_range(c: i16) -> bool
     ensures { result ≡ wind_in_range c }
 {
-    if c < -1024 {
+    if c < LEAST_WIND {
         return false;
     }
     c <= 1024

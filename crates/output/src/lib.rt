@@ -113,7 +113,7 @@ fn fill(
 }
 
 // What the program prints for a file, and its length. Document 01: the program lends buffers for exactly 128 elements and eight
-// smokes. A leaf: the output has room for 200,000 bytes, which no text exceeds. `Counts` is there for `&out[..n]` at the caller.
+// smokes. A leaf: the output has room for 200,000 bytes, which no text exceeds. `prefix_len` is there for `&out[..n]` at the caller.
 pub fn print(file: &[u8], out: &mut [u8]) -> usize
     requires { 200000 ≤ length out.old }
     ensures value { result ≡ length (output file.now) }

@@ -43,7 +43,7 @@ fn pages(out: &mut [u8], field: &[u32], shape: Shape) -> usize
 }
 
 // What the program prints for a file, and its length. A leaf: the output has room for the pages of eight tracers of 2 by 64 elements, the
-// longest. `Counts` is there for `&out[..n]` at the caller.
+// longest. `prefix_len` is there for `&out[..n]` at the caller.
 pub fn print(file: &[u8], out: &mut [u8]) -> usize
     requires { 39072 ≤ length out.old }
     ensures value { result ≡ length (map_output file.now) }

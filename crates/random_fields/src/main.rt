@@ -2,14 +2,15 @@
 // expected output was written by the reference program.
 #![tactic(auto)]
 
+use std::fs::File;
 use std::io::Write;
 use std::{env, fs, io};
 
 // One file: its name on a line, its lines after a step, and its pages.
-fn show(rt: &HostRuntime, name: &str) -> io::Result<()> {
+fn show(rt: &HostRuntime, name: &str, from: &mut File) -> io::Result<()> {
     let mut file = [0u8; 65537];
     let mut out = [0u8; 200000];
-    let n = program_input::fill(&mut fs::open(rt, name)?, &mut file)?;
+    let n = program_input::fill(from, &mut file)?;
     let mut printed = rt.stdout();
     printed.write_all(name.as_bytes())?;
     printed.write_all(b"\n")?;
@@ -19,9 +20,17 @@ fn show(rt: &HostRuntime, name: &str) -> io::Result<()> {
     printed.write_all(&out[..pages])
 }
 
+// The file of a name; one that cannot be opened is told on standard error.
+fn named(rt: &HostRuntime, name: &str) -> io::Result<()> {
+    match fs::open(rt, name) {
+        Ok(mut from) => show(rt, name, &mut from),
+        Err(e) => eprintln!(rt; "{name}: {e}"),
+    }
+}
+
 fn main(rt: HostRuntime) -> io::Result<()> {
     for name in env::args(&rt)?.skip(1) {
-        show(&rt, name.as_str())?;
+        named(&rt, name.as_str())?;
     }
     Ok(())
 }
