@@ -3,19 +3,19 @@
 
 ghost use Rattle.std.specs.Prelude.{◌≡◌, pos, neg_ℤ};
 ghost use Rattle.whole.specs.Bound.{Are};
-ghost use Rattle.rules.specs.Answers.{number, outcome, reading, file_answer};
+ghost use Rattle.rules.specs.Answers.{number, answered};
 ghost use Rattle.rules.specs.Field.{limit};
 ghost use Rattle.c_numbers.specs.Numbers.{face_of, code, number_or, Small, shape_or, AdmittedShape};
 
-use rules::{Face, FileRead, Outcome, Reading, Refusal, Way};
+use rules::{Face, Refusal, Way};
 
 // 0 for an accepted call, else the refusal's number.
-pub fn code(answer: Outcome) -> u8
-    ensures { result ≡ code (outcome answer) }
+pub fn code(answer: Result<(), Refusal>) -> u8
+    ensures { result ≡ code (answered answer) }
 {
     match answer {
-        Outcome::Accepted => 0,
-        Outcome::Refused(r) => rules::refusal_number(r),
+        Ok(()) => 0,
+        Err(r) => r.into(),
     }
 }
 
@@ -23,28 +23,28 @@ pub fn code(answer: Outcome) -> u8
 fn negated(r: Refusal) -> i64
     ensures { Are 255 result (neg_ℤ (pos (number r))) }
 {
-    0 - (rules::refusal_number(r) as i64)
+    -i64::from(u8::from(r))
 }
 
 // The number that is answered, or the refusal's number negated. A leaf: the number is at most the limit.
-pub fn number_or(answer: Reading) -> i64
-    requires { Small (reading answer) }
-    ensures { Are limit result (number_or (reading answer)) }
+pub fn number_or(answer: Result<u64, Refusal>) -> i64
+    requires { Small (answered answer) }
+    ensures { Are limit result (number_or (answered answer)) }
 {
     match answer {
-        Reading::Number(n) => n as i64,
-        Reading::Refused(r) => negated(r),
+        Ok(n) => n as i64,
+        Err(r) => negated(r),
     }
 }
 
 // The shape that is answered, as nx + 256 ny + 65536 K, or the refusal's number negated. A leaf: the shape is admitted.
-pub fn shape_or(answer: FileRead) -> i64
-    requires { AdmittedShape (file_answer answer) }
-    ensures { Are limit result (shape_or (file_answer answer)) }
+pub fn shape_or(answer: Result<Shape, Refusal>) -> i64
+    requires { AdmittedShape (answered answer) }
+    ensures { Are limit result (shape_or (answered answer)) }
 {
     match answer {
-        FileRead::Found(shape) => (shape.nx + 256 * shape.ny + 65536 * shape.tracers) as i64,
-        FileRead::Refused(r) => negated(r),
+        Ok(shape) => (shape.nx + 256 * shape.ny + 65536 * shape.tracers) as i64,
+        Err(r) => negated(r),
     }
 }
 

@@ -1,5 +1,5 @@
 // Printing, and comparing a buffer with what it was.
-use rules::{Outcome, Reading, Refusal};
+use rules::Refusal;
 
 // The number of standard output.
 const STDOUT: i32 = 1;
@@ -29,17 +29,17 @@ fn refusal(r: Refusal) {
     number(wide(rules::refusal_number(r)));
 }
 
-pub(crate) fn outcome(answer: Outcome) {
+pub(crate) fn outcome(answer: Result<(), Refusal>) {
     match answer {
-        Outcome::Accepted => text(b"accepted"),
-        Outcome::Refused(r) => refusal(r),
+        Ok(()) => text(b"accepted"),
+        Err(r) => refusal(r),
     }
 }
 
-pub(crate) fn reading(answer: Reading) {
+pub(crate) fn reading(answer: Result<u64, Refusal>) {
     match answer {
-        Reading::Number(n) => number(n),
-        Reading::Refused(r) => refusal(r),
+        Ok(n) => number(n),
+        Err(r) => refusal(r),
     }
 }
 

@@ -2,14 +2,14 @@
 #![tactic(auto)]
 
 ghost use Rattle.std.specs.Prelude.{◌≡◌, ◌≤◌, length};
-ghost use Rattle.rules.specs.Answers.{reading};
+ghost use Rattle.rules.specs.Answers.{answered};
 ghost use Rattle.rules.specs.Field.{quadratic, faces, part_length, Admitted};
 ghost use Rattle.rules.specs.Calls.{wind_sound};
 ghost use Rattle.field_search.specs.Search.{breaks, searched};
 
 use field_elements::element::number_weight;
 use rules::element::{NODES, NUMBERS};
-use rules::{Reading, Refusal, Shape};
+use rules::{Refusal, Shape};
 
 // A leaf: whether every stored wind is in its range.
 pub fn winds_sound(wind: &[i16], shape: Shape) -> bool
@@ -44,10 +44,10 @@ pub fn breaks(v: usize, x: u64, sum: u64) -> bool
 }
 
 // A leaf: the total of a tracer's part; refusal 6 where a remainder is above 35 or the total above the limit.
-pub fn tracer_total(part: &[u32], shape: Shape) -> Reading
+pub fn tracer_total(part: &[u32], shape: Shape) -> Result<u64, Refusal>
     requires admitted { Admitted shape }
     requires part_len { length part.now ≡ part_length quadratic shape }
-    ensures { reading result ≡ searched shape part.now }
+    ensures { answered result ≡ searched shape part.now }
 {
     let nx = shape.nx;
     let ny = shape.ny;
@@ -68,8 +68,8 @@ pub fn tracer_total(part: &[u32], shape: Shape) -> Reading
         }
     }
     if sound {
-        Reading::Number(sum)
+        Ok(sum)
     } else {
-        Reading::Refused(Refusal::UnsoundTracer)
+        Err(Refusal::UnsoundTracer)
     }
 }

@@ -1,11 +1,11 @@
 // The checks of a file that need its shape: 3 to 6. Leaves of `read`.
 ghost use Rattle.std.specs.Prelude.{◌≡◌, length};
-ghost use Rattle.rules.specs.Answers.{outcome};
+ghost use Rattle.rules.specs.Answers.{answered};
 ghost use Rattle.rules.specs.Field.{quadratic, Admitted};
 ghost use Rattle.rules.specs.FieldFile.{file_length, offsets_right, file_field, field_sound};
 ghost use Rattle.file_reading.specs.Reading.{shape_reply};
 
-use rules::{Outcome, Refusal, Shape};
+use rules::{Refusal, Shape};
 
 // Whether length and offsets of the file are what the shape gives.
 fn offsets_right(file: &[u8], shape: Shape) -> bool
@@ -49,27 +49,27 @@ fn tracers_sound(file: &[u8], shape: Shape) -> bool
 }
 
 // The checks 3 to 6, for buffers of these lengths.
-pub(crate) fn check(file: &[u8], field: usize, wind: usize, shape: Shape) -> Outcome
+pub(crate) fn check(file: &[u8], field: usize, wind: usize, shape: Shape) -> Result<(), Refusal>
     requires { Admitted shape }
-    ensures { outcome result ≡ shape_reply shape file.now field wind }
+    ensures { answered result ≡ shape_reply shape file.now field wind }
 {
     if !offsets_right(file, shape) {
-        return Outcome::Refused(Refusal::BadOffsets);
+        return Err(Refusal::BadOffsets);
     }
     if field < field_layout::field_length(shape) {
-        return Outcome::Refused(Refusal::ShortBuffer);
+        return Err(Refusal::ShortBuffer);
     }
     let faces = field_layout::faces(shape);
     if wind < faces {
-        return Outcome::Refused(Refusal::ShortBuffer);
+        return Err(Refusal::ShortBuffer);
     }
     let start = file_layout::section_start(shape, 0);
     let end = file_layout::section_start(shape, 1);
     if !file_sections::winds_sound(&file[start..end], faces) {
-        return Outcome::Refused(Refusal::WindOutOfRange);
+        return Err(Refusal::WindOutOfRange);
     }
     if !tracers_sound(file, shape) {
-        return Outcome::Refused(Refusal::UnsoundTracer);
+        return Err(Refusal::UnsoundTracer);
     }
-    Outcome::Accepted
+    Ok(())
 }

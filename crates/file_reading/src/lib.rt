@@ -1,28 +1,18 @@
-// The call that reads a field file.
+// The call that answers a field file.
 // A call has no `requires`: what document 01 doesn't admit is refused by its number, and a refused call writes nothing.
 #![tactic(auto)]
 
 ghost use Rattle.std.specs.Prelude.{◌≡◌, ◌≤◌, length};
 ghost use Rattle.whole.specs.Table.{overwrite};
 ghost use Rattle.rules.specs.Field.{quadratic, faces, field_length, Admitted};
-ghost use Rattle.rules.specs.FieldFile.{file_length, file_wind, file_field, finds, ReadGives};
+ghost use Rattle.rules.specs.FieldFile.{file_length, file_wind, file_field, ReadGives};
+ghost use Rattle.rules.specs.Answers.{answers};
 ghost use Rattle.file_reading.specs.Reading.{tail_answer};
 
-use rules::{FileRead, Outcome, Shape};
-use tail::Tail;
+use rules::Shape;
 
 mod checks; // checks.rt: the checks that need the shape
 mod tail; // tail.rt: the last 12 bytes
-
-// What the tail gives, as an answer of `read`, which asks for it only where there is no shape.
-fn answer_of(tail: Tail) -> FileRead
-    ensures { finds result (tail_answer tail) }
-{
-    match tail {
-        Tail::Shape(shape) => FileRead::Found(shape),
-        Tail::Refused(r) => FileRead::Refused(r),
-    }
-}
 
 // Reads the wind section.
 fn read_wind(file: &[u8], wind: &mut [i16], shape: Shape)
@@ -56,20 +46,15 @@ fn read_tracers(file: &[u8], field: &mut [u32], shape: Shape)
 }
 
 // Reads a file into field and wind, and answers its shape.
-pub fn read(file: &[u8], field: &mut [u32], wind: &mut [i16]) -> FileRead
-    ensures { ReadGives quadratic file.now field.old wind.old (finds result) field.new wind.new }
+pub fn read(file: &[u8], field: &mut [u32], wind: &mut [i16]) -> Result<Shape, Refusal>
+    ensures { ReadGives quadratic file.now field.old wind.old (answers result) field.new wind.new }
 {
     let tail = tail::read_tail(file);
-    let Tail::Shape(shape) = tail else {
-        return answer_of(tail);
+    let Ok(shape) = tail else {
+        return tail;
     };
-    let checked = checks::check(file, field.len(), wind.len(), shape);
-    match checked {
-        Outcome::Refused(r) => FileRead::Refused(r),
-        Outcome::Accepted => {
-            read_wind(file, wind, shape);
-            read_tracers(file, field, shape);
-            FileRead::Found(shape)
-        }
-    }
+    checks::check(file, field.len(), wind.len(), shape)?;
+    read_wind(file, wind, shape);
+    read_tracers(file, field, shape);
+    Ok(shape)
 }

@@ -6,16 +6,15 @@ use native.Mathlib.Omega.{arith}
 use lib.Dec.{T}
 use lib.IntN.{ℤ}
 use lib.ListN.{length, take}
+use Rattle.std.specs.Prelude.{Result, Ok, Err}
 use Rattle.rules.specs.declared.Shape.{Shape}
-use Rattle.rules.specs.declared.Reading.{Reading}
-use Rattle.rules.specs.declared.FileRead.{FileRead}
-use Rattle.rules.specs.Answers.{accepted, reading, file_answer}
+use Rattle.rules.specs.Answers.{accepted, answered, answers}
 use Rattle.rules.specs.Field.{quadratic, admitted, faces, field_length}
-use Rattle.rules.specs.Calls.{reads}
 use Rattle.rules.specs.Bytes.{byte_at}
 use Rattle.rules.specs.FieldFile.{file_length, read_reply, read_field, read_wind, write_reply, write_file, finds, ReadGives, WriteGives}
 use Rattle.rules.proofs.QuadraticLaws.{weights-above}
 use Rattle.rules.proofs.ShapeLaws.{ranges}
+use Rattle.rules.specs.declared.Refusal.{Refusal}
 use Rattle.file_round_trips.specs.RoundTrips.{WrittenIsRead, ReadIsWritten, FoundAgain, SameBytes}
 use Rattle.file_layout.proofs.LayoutLaws.{length-le}
 use Rattle.file_round_trips.proofs.WrittenThenRead.{Storable, written-is-read-of}
@@ -40,18 +39,18 @@ pub read-is-written : (g : Shape) (file field : List ℕ) (wind : List ℤ) (out
 read-is-written g file field wind out = read-is-written-of quadratic g file field wind out
 
 -- ---- the same of the calls, by their contracts
-found-is : (r : FileRead) (g : Shape) → file_answer r ≡ accepted g → r ≡ FileRead.Found g
-found-is (FileRead.Found s) g e = cc
-found-is (FileRead.Refused x) g e = let z : ◌≡◌ {A = ℕ} 0 1 = cc in absurd (omega arith)
+found-is : (r : Result Shape Refusal) (g : Shape) → file_answer r ≡ accepted g → r ≡ Ok g
+found-is (Ok s) g e = cc
+found-is (Err x) g e = let z : ◌≡◌ {A = ℕ} 0 1 = cc in absurd (omega arith)
 
-number_is : (r : Reading) (n : ℕ) → reading r ≡ accepted n → r ≡ Reading.Number n
-number_is (Reading.Number m) n e = cc
-number_is (Reading.Refused x) n e = let z : ◌≡◌ {A = ℕ} 0 1 = cc in absurd (omega arith)
+number_is : (r : Result ℕ Refusal) (n : ℕ) → reading r ≡ accepted n → r ≡ Ok n
+number_is (Ok m) n e = cc
+number_is (Err x) n e = let z : ◌≡◌ {A = ℕ} 0 1 = cc in absurd (omega arith)
 
 -- `write` answered n; `read` is lent the first n bytes of what it left
-pub write-then-read : (g : Shape) (field : List ℕ) (wind : List ℤ) (out out' : List ℕ) (n : ℕ) → WriteGives quadratic g field wind out (reads (Reading.Number n)) out'
+pub write-then-read : (g : Shape) (field : List ℕ) (wind : List ℤ) (out out' : List ℕ) (n : ℕ) → WriteGives quadratic g field wind out (answers (Ok n)) out'
     → (field₀ : List ℕ) (wind₀ : List ℤ) → field_length quadratic g ≤ length field₀ → faces g ≤ length wind₀
-    → (r : FileRead) (field' : List ℕ) (wind' : List ℤ) → ReadGives quadratic (take n out') field₀ wind₀ (finds r) field' wind' → FoundAgain g field wind field₀ wind₀ r field' wind'
+    → (r : Result Shape Refusal) (field' : List ℕ) (wind' : List ℤ) → ReadGives quadratic (take n out') field₀ wind₀ (answers r) field' wind' → FoundAgain g field wind field₀ wind₀ r field' wind'
 write-then-read g field wind out out' n w field₀ wind₀ room-field room-wind r field' wind' q =
     let t = written-is-read g field field₀ wind wind₀ out n (sym w.0) room-field room-wind in
     let same : take n out' ≡ take n (write_file quadratic g field wind out) = ap (take n) w.1 in
@@ -63,8 +62,8 @@ write-then-read g field wind out out' n w field₀ wind₀ room-field room-wind 
 
 -- `read` answered the shape g; `write` is lent what it left
 pub read-then-write : (file field : List ℕ) (wind : List ℤ) (g : Shape) (field' : List ℕ) (wind' : List ℤ) → ((i : ℕ) → byte_at file i < 256)
-    → ReadGives quadratic file field wind (finds (FileRead.Found g)) field' wind' → (out : List ℕ) → length file ≤ length out
-    → (r : Reading) (out' : List ℕ) → WriteGives quadratic g field' wind' out (reads r) out' → SameBytes file out r out'
+    → ReadGives quadratic file field wind (answers (Ok g)) field' wind' → (out : List ℕ) → length file ≤ length out
+    → (r : Result ℕ Refusal) (out' : List ℕ) → WriteGives quadratic g field' wind' out (answers r) out' → SameBytes file out r out'
 read-then-write file field wind g field' wind' below q out room r out' w =
     let t = read-is-written g file field wind out below (sym q.0) room in
     record {

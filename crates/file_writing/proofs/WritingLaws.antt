@@ -10,6 +10,7 @@ use lib.ListN.{length, get_or, set, take, drop, length-append}
 use Rattle.whole.specs.Table.{blocks, overwrite}
 use Rattle.whole.proofs.OverwriteLaws.{part_at, length-overwrite}
 use Rattle.whole.proofs.TableLaws.{blocks_more, blocks-cong}
+use Rattle.std.specs.Prelude.{Result, Ok, Err}
 use Rattle.rules.specs.declared.Shape.{Shape}
 use Rattle.rules.specs.Field.{quadratic, part_length, field_length, part, sound, Admitted}
 use Rattle.rules.specs.Bytes.{bytes32}
@@ -17,8 +18,7 @@ use Rattle.rules.specs.FieldFile.{table_start, mark, tail}
 use Rattle.rules.proofs.PartLaws.{length-part}
 use Rattle.field_search.specs.Search.{searched}
 use Rattle.rules.specs.declared.Refusal.{Refusal}
-use Rattle.rules.specs.declared.Reading.{Reading}
-use Rattle.rules.specs.Answers.{number, reading}
+use Rattle.rules.specs.Answers.{number, answered}
 use Rattle.field_search.proofs.SearchLaws.{searched-yes, searched-no}
 use Rattle.field_layout.proofs.PlaceLaws.{tracer-room, field_is, field-le}
 use Rattle.file_numbers.proofs.ByteLaws.{stored-4}
@@ -43,12 +43,12 @@ module _ (g : Shape) (field : List ℕ) (room : field_length quadratic g ≤ len
   lent_length = ap length lent_is ∙ length-part quadratic g s field there room
 
   -- what the search of its part finds
-  module _ (r : Reading) (found : reading r ≡ searched g (take (start + w - start) (drop start field))) where
-    pub found-sound : (t : ℕ) → r ≡ Reading.Number t → sound quadratic g (part quadratic g s field) ≡ true
-    found-sound t e = searched-yes g (part quadratic g s field) t (sym (found ∙ ap (searched g) lent_is) ∙ ap reading e)
+  module _ (r : Result ℕ Refusal) (found : reading r ≡ searched g (take (start + w - start) (drop start field))) where
+    pub found-sound : (t : ℕ) → r ≡ Ok t → sound quadratic g (part quadratic g s field) ≡ true
+    found-sound t e = searched-yes g (part quadratic g s field) t (sym (found ∙ ap (searched g) lent_is) ∙ ap answered e)
 
-    pub found-unsound : (x : Refusal) → r ≡ Reading.Refused x → sound quadratic g (part quadratic g s field) ≡ false
-    found-unsound x e = searched-no g (part quadratic g s field) (number x) (sym (found ∙ ap (searched g) lent_is) ∙ ap reading e)
+    pub found-unsound : (x : Refusal) → r ≡ Err x → sound quadratic g (part quadratic g s field) ≡ false
+    found-unsound x e = searched-no g (part quadratic g s field) (number x) (sym (found ∙ ap (searched g) lent_is) ∙ ap answered e)
 
 -- ---- the sections of the tracers, one after the other from place a of the file on
 module _ (field file₀ : List ℕ) (a : ℕ) where

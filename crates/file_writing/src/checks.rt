@@ -1,10 +1,10 @@
 // The checks of a writing. Leaves of `write`.
 ghost use Rattle.std.specs.Prelude.{◌≡◌, ◌&&◌, ◌≤◌, leb, length};
-ghost use Rattle.rules.specs.Answers.{reading};
+ghost use Rattle.rules.specs.Answers.{answered};
 ghost use Rattle.rules.specs.Field.{quadratic, faces, field_length, Admitted};
 ghost use Rattle.rules.specs.FieldFile.{file_length, field_sound, write_reply};
 
-use rules::{Reading, Refusal, Shape};
+use rules::{Refusal, Shape};
 
 // Whether buffers of these lengths are long enough.
 fn lent_enough(field: usize, wind: usize, file: usize, shape: Shape) -> bool
@@ -31,30 +31,29 @@ fn tracers_sound(field: &[u32], shape: Shape) -> bool
     let mut start = 0;
     for s in 0..tracers {
         let end = start + length;
-        let found = field_search::tracer_total(&field[start..end], shape);
-        let Reading::Number(_) = found else {
+        if field_search::tracer_total(&field[start..end], shape).is_err() {
             return false;
-        };
+        }
         start = end;
     }
     true
 }
 
 // The checks of a writing: 2, 4, 5 and 6.
-pub(crate) fn check(file: &[u8], field: &[u32], wind: &[i16], shape: Shape) -> Reading
-    ensures { reading result ≡ write_reply quadratic shape field.now wind.now file.now }
+pub(crate) fn check(file: &[u8], field: &[u32], wind: &[i16], shape: Shape) -> Result<u64, Refusal>
+    ensures { answered result ≡ write_reply quadratic shape field.now wind.now file.now }
 {
     if !field_layout::admitted(shape) {
-        return Reading::Refused(Refusal::BadShape);
+        return Err(Refusal::BadShape);
     }
     if !lent_enough(field.len(), wind.len(), file.len(), shape) {
-        return Reading::Refused(Refusal::ShortBuffer);
+        return Err(Refusal::ShortBuffer);
     }
     if !field_search::winds_sound(wind, shape) {
-        return Reading::Refused(Refusal::WindOutOfRange);
+        return Err(Refusal::WindOutOfRange);
     }
     if !tracers_sound(field, shape) {
-        return Reading::Refused(Refusal::UnsoundTracer);
+        return Err(Refusal::UnsoundTracer);
     }
-    Reading::Number(file_layout::file_length(shape) as u64)
+    Ok(file_layout::file_length(shape) as u64)
 }

@@ -5,12 +5,12 @@
 ghost use Rattle.std.specs.Prelude.{◌≡◌, ◌*◌, ◌+◌, ◌≤◌, length, get_or};
 ghost use Rattle.whole.specs.Table.{blocks, overwrite};
 ghost use Rattle.rules.specs.Field.{quadratic, faces, field_length, Admitted};
-ghost use Rattle.rules.specs.Calls.{reads};
 ghost use Rattle.rules.specs.Bytes.{bytes32};
 ghost use Rattle.rules.specs.FieldFile.{section_start, file_length, tail, file_of, WriteGives};
+ghost use Rattle.rules.specs.Answers.{answers};
 
 use file_layout::MARK;
-use rules::{Reading, Shape};
+use rules::Shape;
 
 mod checks; // checks.rt: the checks of a writing
 
@@ -83,15 +83,10 @@ fn write_parts(file: &mut [u8], field: &[u32], wind: &[i16], shape: Shape)
 }
 
 // Writes a field and a wind of this shape to a file, and answers its length in bytes.
-pub fn write(file: &mut [u8], field: &[u32], wind: &[i16], shape: Shape) -> Reading
-    ensures { WriteGives quadratic shape field.now wind.now file.old (reads result) file.new }
+pub fn write(file: &mut [u8], field: &[u32], wind: &[i16], shape: Shape) -> Result<u64, Refusal>
+    ensures { WriteGives quadratic shape field.now wind.now file.old (answers result) file.new }
 {
-    let checked = checks::check(file, field, wind, shape);
-    match checked {
-        Reading::Refused(r) => Reading::Refused(r),
-        Reading::Number(n) => {
-            write_parts(file, field, wind, shape);
-            Reading::Number(n)
-        }
-    }
+    let n = checks::check(file, field, wind, shape)?;
+    write_parts(file, field, wind, shape);
+    Ok(n)
 }

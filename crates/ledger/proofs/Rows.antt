@@ -12,9 +12,9 @@ use Rattle.whole.proofs.OverwriteLaws.{front-is}
 use Rattle.whole.proofs.TableLaws.{length-table}
 use Rattle.rules.specs.declared.Shape.{Shape}
 use Rattle.rules.specs.declared.Outcome.TheVariants.{Accepted}
-use Rattle.rules.specs.Answers.{Answer, accepted, refused, plain, outcome}
+use Rattle.rules.specs.Answers.{Answer, accepted, refused, plain, answered, answers}
 use Rattle.rules.specs.Field.{quadratic, faces, field_length, part, remainder, mass, total, limit}
-use Rattle.rules.specs.Calls.{Operation, load, emission, withdrawal, step, Lent, lengths_lent, lent, Reply, no_report, done, call, fresh_reply, fresh_field, fresh_wind, zero_field, zero_wind, report_after, answers, FreshGives, fresh_checks}
+use Rattle.rules.specs.Calls.{Operation, load, emission, withdrawal, step, Lent, lengths_lent, lent, Reply, no_report, done, call, fresh_reply, fresh_field, fresh_wind, zero_field, zero_wind, report_after, FreshGives, fresh_checks}
 use Rattle.rules.specs.Step.{report, tracer_step}
 use Rattle.rules.proofs.AnswerLaws.{answer-ind, after-accepted}
 use Rattle.rules.proofs.FieldLaws.{call-ind}
@@ -64,7 +64,7 @@ module _ (g : Shape) (b : Buffers) where
   told_is (on s (withdrawal i j q)) x d h = no-report _ _ (reply-of g s (withdrawal i j q) x.field) h.0.0
   told_is (on s (step u)) x d h =
       let l = lent x.wind d.lent_report d.lent_work in
-      with-report (faces g) (call quadratic g s (step l) x.field).reply (outcome d.answer) d.lent_report d.left_report
+      with-report (faces g) (call quadratic g s (step l) x.field).reply (answered d.answer) d.lent_report d.left_report
       (λ r e. ap (λ y. length y.report) (reply-of g s (step l) x.field r e) ∙ report-long g (part quadratic g s x.field) l) h.0.0 h.0.1.1.0
       ∙ ap (λ y. (call quadratic g s (step y) x.field).reply) (lent_is x d h.1.1.0 h.1.1.1)
 

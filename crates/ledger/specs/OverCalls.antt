@@ -1,16 +1,16 @@
 -- Demand 3 over the calls of the code: a row of calls, of each of which nothing is known but what its contract says.
-use Rattle.std.specs.Prelude.{◌≡◌, ℕ, ◌≤◌, ◌<◌, ℤ, pos, length, take}
+use Rattle.std.specs.Prelude.{◌≡◌, ℕ, ◌≤◌, ◌<◌, ℤ, pos, length, take, Result}
 use mathlib.Core.List.{List, [], ◌∷◌}
 use Rattle.rules.specs.declared.Shape.{Shape}
-use Rattle.rules.specs.declared.Outcome.{Outcome}
-use Rattle.rules.specs.Answers.{Answer, accepted, refused, outcome}
+use Rattle.rules.specs.Answers.{Answer, accepted, refused, answered, answers}
 use Rattle.rules.specs.Field.{quadratic, elements, faces, part, remainder, mass, total, limit}
-use Rattle.rules.specs.Calls.{load, emission, withdrawal, step, Reply, answers, CallGives, StepGives, WindGives}
+use Rattle.rules.specs.Calls.{load, emission, withdrawal, step, Reply, CallGives, StepGives, WindGives}
+use Rattle.rules.specs.declared.Refusal.{Refusal}
 use Rattle.ledger.specs.Lists.{Call, on_wind, on, State, Buffers, unreported, ledger, strike, replies_left}
 
 -- what one call of the code gave: its answer, field and wind at exit, and report and work at entry (lent) and at exit (left)
 pub record Given : Type 0 where
-  pub answer : Outcome
+  pub answer : Result (Unit {0}) Refusal
   pub state : State
   pub lent_report : List ℤ
   pub left_report : List ℤ
@@ -46,11 +46,11 @@ module _ (g : Shape) where
   -- the answer that the ledger is fed with: "An accepted step's answer there includes the report as that step left it"
   unfoldable pub told : Call → Given → Answer Reply
   unfolding unreported reported
-  told (on_wind c) d = unreported (outcome d.answer)
-  told (on s (load numbers)) d = unreported (outcome d.answer)
-  told (on s (emission i j q)) d = unreported (outcome d.answer)
-  told (on s (withdrawal i j q)) d = unreported (outcome d.answer)
-  told (on s (step u)) d = reported (outcome d.answer) (take (faces g) d.left_report)
+  told (on_wind c) d = unreported (answered d.answer)
+  told (on s (load numbers)) d = unreported (answered d.answer)
+  told (on s (emission i j q)) d = unreported (answered d.answer)
+  told (on s (withdrawal i j q)) d = unreported (answered d.answer)
+  told (on s (step u)) d = reported (answered d.answer) (take (faces g) d.left_report)
 
   -- the answers that a row of calls gave, as the ledger is fed with them
   unfoldable pub all_told : List Call → List Given → List (Answer Reply)

@@ -10,19 +10,12 @@ ghost use Rattle.output.specs.AddedLines.{tracer_room, AddedOrRefused};
 
 use program_file::{ELEMENTS, SMOKES};
 use rules::element::NUMBERS;
-use rules::{FileRead, Outcome, Reading, Refusal, Shape};
+use rules::{Refusal, Shape};
 
 // No text is longer.
 const TEXT: usize = 200_000;
 
-// Lines in the buffer up to a place, or why there are none.
-#[derive(Clone, Copy)]
-pub(crate) enum Lines {
-    UpTo(usize),
-    Refused(Refusal),
-}
-
-// Steps one tracer, and prints its lines from place `at` on.
+// Steps one tracer, prints its lines from place `at` on, and answers where they end.
 fn tracer(
     out: &mut [u8],
     field: &mut [u32],
@@ -32,7 +25,7 @@ fn tracer(
     shape: Shape,
     tracer: usize,
     at: usize,
-) -> Lines
+) -> Result<usize, Refusal>
     requires admitted { Admitted shape }
     requires report_len { length report.old ≡ report_lent }
     requires work_len { length work.old ≡ work_lent }
@@ -40,19 +33,11 @@ fn tracer(
     requires shape_in_bounds { at + tracer_room shape ≤ length out.old }
     ensures { AddedOrRefused (tracer_room shape) at (stepped shape wind.now tracer field.old) field.new out.old out.new result }
 {
-    let answer = step::step(field, wind, report, work, shape, tracer);
-    match answer {
-        Outcome::Refused(r) => Lines::Refused(r),
-        Outcome::Accepted => {
-            let found = field::total(field, shape, tracer);
-            match found {
-                Reading::Refused(r) => Lines::Refused(r),
-                Reading::Number(total) => Lines::UpTo(text_lines::tracer_lines(
-                    out, at, shape, tracer, report, total,
-                )),
-            }
-        }
-    }
+    step::step(field, wind, report, work, shape, tracer)?;
+    let total = field::total(field, shape, tracer)?;
+    Ok(text_lines::tracer_lines(
+        out, at, shape, tracer, report, total,
+    ))
 }
 
 // The line of the grid, and every tracer's lines after its step.
@@ -63,7 +48,7 @@ fn tracers(
     report: &mut [i32],
     work: &mut [i64],
     shape: Shape,
-) -> Lines
+) -> Result<usize, Refusal>
     requires admitted { Admitted shape }
     requires report_len { length report.old ≡ report_lent }
     requires work_len { length work.old ≡ work_lent }
@@ -74,13 +59,9 @@ fn tracers(
     let count = shape.tracers;
     let mut at = text_lines::grid_line(out, 0, shape);
     for s in 0..count {
-        let added = tracer(out, field, wind, report, work, shape, s, at);
-        let Lines::UpTo(end) = added else {
-            return added;
-        };
-        at = end;
+        at = tracer(out, field, wind, report, work, shape, s, at)?;
     }
-    Lines::UpTo(at)
+    Ok(at)
 }
 
 // The whole text at the front of the buffer. All buffers but the file are `print`'s own: only the text in them is used after this.
@@ -99,16 +80,12 @@ fn fill(
     ensures upper_bound { result ≤ 200000 }
     ensures out_after { take result out.new ≡ printed steps file.now field.old wind.old }
 {
-    let answer = program_file::read(file, field, wind);
-    match answer {
-        FileRead::Refused(r) => program_file::refusal(out, r),
-        FileRead::Found(shape) => {
-            let added = tracers(out, field, wind, report, work, shape);
-            match added {
-                Lines::Refused(r) => program_file::refusal(out, r),
-                Lines::UpTo(end) => end,
-            }
-        }
+    match program_file::read(file, field, wind) {
+        Err(r) => program_file::refusal(out, r),
+        Ok(shape) => match tracers(out, field, wind, report, work, shape) {
+            Err(r) => program_file::refusal(out, r),
+            Ok(end) => end,
+        },
     }
 }
 

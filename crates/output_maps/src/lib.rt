@@ -12,7 +12,7 @@ ghost use Rattle.output_maps.specs.SoundField.{SoundField};
 
 use program_file::{ELEMENTS, SMOKES};
 use rules::element::NUMBERS;
-use rules::{FileRead, Reading, Shape};
+use rules::Shape;
 
 // One tracer's page from place `at` on. No map of a sound field is refused, so that the second case is not met.
 fn page(out: &mut [u8], at: usize, field: &[u32], shape: Shape, tracer: usize) -> usize
@@ -21,10 +21,9 @@ fn page(out: &mut [u8], at: usize, field: &[u32], shape: Shape, tracer: usize) -
     requires shape_in_bounds { at + page_length shape ≤ length out.old }
     ensures { Added (page_length shape) at (page_text quadratic shape (part quadratic shape tracer field.now)) out.old out.new result }
 {
-    let found = map::map(&mut out[at..], field, shape, tracer);
-    match found {
-        Reading::Number(n) => at + n as usize,
-        Reading::Refused(_) => at,
+    match map::map(&mut out[at..], field, shape, tracer) {
+        Ok(n) => at + n as usize,
+        Err(_) => at,
     }
 }
 
@@ -52,9 +51,8 @@ pub fn print(file: &[u8], out: &mut [u8]) -> usize
 {
     let mut field = [0u32; SMOKES * ELEMENTS * NUMBERS];
     let mut wind = [0i16; 2 * ELEMENTS];
-    let answer = program_file::read(file, &mut field, &mut wind);
-    match answer {
-        FileRead::Refused(r) => program_file::refusal(out, r),
-        FileRead::Found(shape) => pages(out, &field, shape),
+    match program_file::read(file, &mut field, &mut wind) {
+        Err(r) => program_file::refusal(out, r),
+        Ok(shape) => pages(out, &field, shape),
     }
 }

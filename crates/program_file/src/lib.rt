@@ -2,13 +2,12 @@
 #![tactic(auto)]
 
 ghost use Rattle.std.specs.Prelude.{◌≤◌, length};
-ghost use Rattle.rules.specs.Answers.{number};
-ghost use Rattle.rules.specs.FieldFile.{finds};
+ghost use Rattle.rules.specs.Answers.{number, answers};
 ghost use Rattle.rules.specs.Program.{refused_line};
 ghost use Rattle.text.specs.Added.{Added};
 ghost use Rattle.program_file.specs.FileTaken.{FileGives};
 
-use rules::{FileRead, Refusal};
+use rules::Refusal;
 
 // "It lends buffers for exactly 128 elements and eight smokes".
 pub const ELEMENTS: usize = 128;
@@ -16,11 +15,11 @@ pub const ELEMENTS: usize = 128;
 pub const SMOKES: usize = 8;
 
 // A file is read into the buffers, but one of more than 65,536 bytes is refused by 3, before any other check.
-pub fn read(file: &[u8], field: &mut [u32], wind: &mut [i16]) -> FileRead
-    ensures { FileGives file.now field.old wind.old (finds result) field.new wind.new }
+pub fn read(file: &[u8], field: &mut [u32], wind: &mut [i16]) -> Result<Shape, Refusal>
+    ensures { FileGives file.now field.old wind.old (answers result) field.new wind.new }
 {
     if 65536 < file.len() {
-        return FileRead::Refused(Refusal::BadOffsets);
+        return Err(Refusal::BadOffsets);
     }
     file_reading::read(file, field, wind)
 }
@@ -30,5 +29,5 @@ pub fn refusal(out: &mut [u8], r: Refusal) -> usize
     requires { 29 ≤ length out.old }
     ensures { Added 29 0 (refused_line (number r)) out.old out.new result }
 {
-    text_lines::refused_line(out, 0, rules::refusal_number(r))
+    text_lines::refused_line(out, 0, r.into())
 }

@@ -1,11 +1,7 @@
 -- Document 01, "Who meets which refusal": how checks make an answer, and the number of each refusal.
-use Rattle.std.specs.Prelude.{Bool, true, ◌&&◌, cond, List, [], ◌∷◌, ℕ, ltb}
-use Rattle.rules.specs.declared.Shape.{Shape}
+use Rattle.std.specs.Prelude.{◌≡◌, Bool, true, ◌&&◌, cond, List, [], ◌∷◌, ℕ, ltb, Result, Ok, Err}
 use Rattle.rules.specs.declared.Refusal.{Refusal}
 use Rattle.rules.specs.declared.Refusal.TheVariants.{NoFieldFile, BadShape, BadOffsets, ShortBuffer, WindOutOfRange, UnsoundTracer, NoSuchTracer, NoSuchElement, TotalAboveLimit, MassTooSmall, BrokenRecords, NotFinite}
-use Rattle.rules.specs.declared.Outcome.{Outcome}
-use Rattle.rules.specs.declared.Reading.{Reading}
-use Rattle.rules.specs.declared.FileRead.{FileRead}
 
 -- an answer in the paper's terms: accepted, with what is answered beside that, or refused by a number
 pub data Answer (A : Type 0) : Type 0 where
@@ -42,7 +38,7 @@ unfoldable pub plain : {A : Type 0} → Answer A → Answer (Unit {0})
 plain (accepted x) = accepted tt
 plain (refused n) = refused n
 
--- ---- each case of the answers' enums, in the paper's numbers and values
+-- ---- each case of an answer, in the paper's numbers and values
 abbrev pub number : Refusal → ℕ
 number NoFieldFile = 1
 number BadShape = 2
@@ -58,14 +54,11 @@ number MassTooSmall = 10
 number BrokenRecords = 11
 number NotFinite = 12
 
-abbrev pub outcome : Outcome → Answer (Unit {0})
-outcome Outcome.Accepted = accepted tt
-outcome (Outcome.Refused r) = refused (number r)
+-- "The promises use a definition for any answer that is an enum": accepted with what the call gives, or refused by the paper's number
+abbrev pub answered : {A : Type 0} → Result A Refusal → Answer A
+answered (Ok x) = accepted x
+answered (Err r) = refused (number r)
 
-abbrev pub reading : Reading → Answer ℕ
-reading (Reading.Number n) = accepted n
-reading (Reading.Refused r) = refused (number r)
-
-abbrev pub file_answer : FileRead → Answer Shape
-file_answer (FileRead.Found s) = accepted s
-file_answer (FileRead.Refused r) = refused (number r)
+-- the answer of a call is this one
+abbrev pub answers : {A : Type 0} → Result A Refusal → Answer A → Type 0
+answers r a = answered r ≡ a

@@ -9,9 +9,7 @@ use Rattle.whole.specs.Sum.{all}
 use Rattle.whole.specs.Table.{table, blocks, overwrite}
 use Rattle.rules.specs.declared.Shape.{Shape}
 use Rattle.rules.specs.declared.Face.{Face}
-use Rattle.rules.specs.declared.Outcome.{Outcome}
-use Rattle.rules.specs.declared.Reading.{Reading}
-use Rattle.rules.specs.Answers.{Answer, accepted, refused, Check, check, answer, after, plain, outcome, reading}
+use Rattle.rules.specs.Answers.{Answer, accepted, refused, Check, check, answer, after, plain}
 use Rattle.rules.specs.Field.{Kind, admitted, elements, faces, work_needed, element, on_grid, element_length, field_length, part, with_part, cell, mass, total, limit, sound, wind_in_range}
 use Rattle.rules.specs.WindRecords.{all_record_checks, record_winds}
 use Rattle.rules.specs.Limiter.{closed, closed_unlevelled}
@@ -218,13 +216,7 @@ module _ (g : Shape) where
 
 -- ---- what each call gives: what is told of its answer, and every buffer that it was lent for writing, at exit, from what all its buffers
 -- held at entry. The contracts of the code cite these, and so do the theorems over rows of calls.
--- What is told: the answer itself (`answers`, `reads`), or, for C, its number.
-abbrev pub answers : Outcome → Answer (Unit {0}) → Type 0
-answers r a = outcome r ≡ a
-
-abbrev pub reads : Reading → Answer ℕ → Type 0
-reads r a = reading r ≡ a
-
+-- What is told: the answer itself (`answers`), or, for C, its number.
 -- the report buffer after a step: the report written over its front, "Surplus is left alone"
 unfoldable pub report_after : Answer Reply → List ℤ → List ℤ
 unfolding overwrite

@@ -5,8 +5,7 @@ use Rattle.std.proofs.Math.Dec.{eqb}
 use Rattle.whole.specs.Sum.{all}
 use Rattle.whole.specs.Table.{table, blocks, overwrite}
 use Rattle.rules.specs.declared.Shape.{Shape}
-use Rattle.rules.specs.declared.FileRead.{FileRead}
-use Rattle.rules.specs.Answers.{Answer, Check, check, answer, after, file_answer}
+use Rattle.rules.specs.Answers.{Answer, Check, check, answer, after}
 use Rattle.rules.specs.Field.{Kind, admitted, faces, part_length, field_length, part, sound}
 use Rattle.rules.specs.Bytes.{byte_at, bytes32, number32, bytes16, number16}
 use Rattle.rules.specs.Calls.{wind_at, wind_sound}
@@ -110,9 +109,6 @@ module _ (κ : Kind) where
   write_file g field wind file = after (write_reply g field wind file) (overwrite 0 (file_of κ g field wind) file) file
 
 -- ---- what reading and writing give, as the calls on a field do: what is told of the answer, and every buffer that was lent for writing
-abbrev pub finds : FileRead → Answer Shape → Type 0
-finds r a = file_answer r ≡ a
-
 module _ (κ : Kind) where
   abbrev pub ReadGives : List ℕ → List ℕ → List ℤ → (Answer Shape → Type 0) → List ℕ → List ℤ → Type 0
   ReadGives file field wind told field' wind' = told (read_reply κ file field wind) × ((field' ≡ read_field κ file field wind) × (wind' ≡ read_wind κ file field wind))

@@ -48,7 +48,8 @@ pub enum WindRecord {
     East(f64),
 }
 
-// Why a call was refused, in the order of the refusals' numbers.
+// Why a call was refused, in the order of the refusals' numbers. Every call answers a Result with it: () where the call changes something, a
+// number where it is a reading or writes a file, the shape where it answers one.
 #[derive(Clone, Copy)]
 pub enum Refusal {
     // 1: the end of the file is not that of a field file
@@ -77,43 +78,24 @@ pub enum Refusal {
     NotFinite,
 }
 
-// The answer of a call that changes something.
-#[derive(Clone, Copy)]
-pub enum Outcome {
-    Accepted,
-    Refused(Refusal),
-}
-
-// The answer of a reading, and of file writing: a number.
-#[derive(Clone, Copy)]
-pub enum Reading {
-    Number(u64),
-    Refused(Refusal),
-}
-
-// The answer of file reading: the shape.
-#[derive(Clone, Copy)]
-pub enum FileRead {
-    Found(Shape),
-    Refused(Refusal),
-}
-
 // The number that the documents give to a refusal.
-pub fn refusal_number(r: Refusal) -> u8
-    ensures { result ≡ number r }
-{
-    match r {
-        Refusal::NoFieldFile => 1,
-        Refusal::BadShape => 2,
-        Refusal::BadOffsets => 3,
-        Refusal::ShortBuffer => 4,
-        Refusal::WindOutOfRange => 5,
-        Refusal::UnsoundTracer => 6,
-        Refusal::NoSuchTracer => 7,
-        Refusal::NoSuchElement => 8,
-        Refusal::TotalAboveLimit => 9,
-        Refusal::MassTooSmall => 10,
-        Refusal::BrokenRecords => 11,
-        Refusal::NotFinite => 12,
+impl From<Refusal> for u8 {
+    ghost from_gives = { λ r n. n ≡ number r };
+
+    fn from(r: Refusal) -> u8 {
+        match r {
+            Refusal::NoFieldFile => 1,
+            Refusal::BadShape => 2,
+            Refusal::BadOffsets => 3,
+            Refusal::ShortBuffer => 4,
+            Refusal::WindOutOfRange => 5,
+            Refusal::UnsoundTracer => 6,
+            Refusal::NoSuchTracer => 7,
+            Refusal::NoSuchElement => 8,
+            Refusal::TotalAboveLimit => 9,
+            Refusal::MassTooSmall => 10,
+            Refusal::BrokenRecords => 11,
+            Refusal::NotFinite => 12,
+        }
     }
 }

@@ -3,11 +3,11 @@
 #![tactic(auto)]
 
 ghost use Rattle.std.specs.Prelude.{◌≡◌, ◌&&◌, leb};
-ghost use Rattle.rules.specs.Answers.{plain};
+ghost use Rattle.rules.specs.Answers.{plain, answers};
 ghost use Rattle.rules.specs.Field.{quadratic, faces, work_needed, field_length, Admitted};
-ghost use Rattle.rules.specs.Calls.{step, lengths_lent, call, answers, StepGives};
+ghost use Rattle.rules.specs.Calls.{step, lengths_lent, call, StepGives};
 
-use rules::{Outcome, Reading, Refusal, Shape};
+use rules::{Refusal, Shape};
 
 mod tracer; // tracer.rt: the step on a tracer's part
 
@@ -45,23 +45,20 @@ fn check(
     work: usize,
     shape: Shape,
     tracer: usize,
-) -> Outcome
+) -> Result<(), Refusal>
     ensures { answers result (plain (call quadratic shape tracer (step (lengths_lent wind.now report work)) field.now).reply) }
 {
     if !field_layout::admitted(shape) {
-        return Outcome::Refused(Refusal::BadShape);
+        return Err(Refusal::BadShape);
     }
     if !lent_enough(field.len(), wind.len(), report, work, shape) {
-        return Outcome::Refused(Refusal::ShortBuffer);
+        return Err(Refusal::ShortBuffer);
     }
     if !field_search::winds_sound(wind, shape) {
-        return Outcome::Refused(Refusal::WindOutOfRange);
+        return Err(Refusal::WindOutOfRange);
     }
-    let found = field::total(field, shape, tracer);
-    match found {
-        Reading::Refused(r) => Outcome::Refused(r),
-        Reading::Number(_) => Outcome::Accepted,
-    }
+    field::total(field, shape, tracer)?;
+    Ok(())
 }
 
 // A step of one tracer: its elements and the face report.
@@ -72,24 +69,19 @@ pub fn step(
     work: &mut [i64],
     shape: Shape,
     tracer: usize,
-) -> Outcome
+) -> Result<(), Refusal>
     ensures { StepGives quadratic shape tracer field.old wind.now report.old work.old (answers result) field.new report.new work.new }
 {
-    let checked = check(field, wind, report.len(), work.len(), shape, tracer);
-    match checked {
-        Outcome::Refused(r) => Outcome::Refused(r),
-        Outcome::Accepted => {
-            let start = field_layout::tracer_start(shape, tracer);
-            let end = start + field_layout::elements_length(shape);
-            let needed = work_needed(shape);
-            tracer::step(
-                &mut field[start..end],
-                wind,
-                report,
-                &mut work[..needed],
-                shape,
-            );
-            Outcome::Accepted
-        }
-    }
+    check(field, wind, report.len(), work.len(), shape, tracer)?;
+    let start = field_layout::tracer_start(shape, tracer);
+    let end = start + field_layout::elements_length(shape);
+    let needed = work_needed(shape);
+    tracer::step(
+        &mut field[start..end],
+        wind,
+        report,
+        &mut work[..needed],
+        shape,
+    );
+    Ok(())
 }

@@ -3,16 +3,16 @@
 
 ghost use Rattle.std.specs.Prelude.{◌≡◌, ◌+◌, ◌≤◌, length};
 ghost use Rattle.whole.specs.Written.{Written};
-ghost use Rattle.rules.specs.Answers.{accepted, answer};
-ghost use Rattle.rules.specs.Calls.{WindGives, from_records, answers};
+ghost use Rattle.rules.specs.Answers.{accepted, answer, answers};
+ghost use Rattle.rules.specs.Calls.{WindGives, from_records};
 ghost use Rattle.rules.specs.Sizes.{most_elements};
 ghost use Rattle.rules.specs.WindRecords.{east_wind, north_wind, all_record_checks};
 
-use rules::{Outcome, Refusal, Shape};
+use rules::{Refusal, Shape};
 use wind_records::Imported;
 
 // Whether the records of n elements pass, with no byte left over.
-fn check(records: &[u8], n: usize) -> Outcome
+fn check(records: &[u8], n: usize) -> Result<(), Refusal>
     ensures { answers result (answer (all_record_checks records.now n) tt) }
 {
     let mut at = 0;
@@ -21,7 +21,7 @@ fn check(records: &[u8], n: usize) -> Outcome
         let found = wind_records::winds_at(records, at);
         match found {
             Imported::Refused(r) => {
-                return Outcome::Refused(r);
+                return Err(r);
             }
             Imported::Winds(_) => {}
         }
@@ -29,9 +29,9 @@ fn check(records: &[u8], n: usize) -> Outcome
         e += 1;
     }
     if at < records.len() {
-        return Outcome::Refused(Refusal::BrokenRecords);
+        return Err(Refusal::BrokenRecords);
     }
-    Outcome::Accepted
+    Ok(())
 }
 
 // Writes the winds of n records that have passed.
@@ -58,22 +58,17 @@ fn lay(wind: &mut [i16], records: &[u8], n: usize)
 }
 
 // Every face gets the wind of its element's record.
-pub fn import(wind: &mut [i16], records: &[u8], shape: Shape) -> Outcome
+pub fn import(wind: &mut [i16], records: &[u8], shape: Shape) -> Result<(), Refusal>
     ensures { WindGives shape (from_records records.now) wind.old (answers result) wind.new }
 {
     if !field_layout::admitted(shape) {
-        return Outcome::Refused(Refusal::BadShape);
+        return Err(Refusal::BadShape);
     }
     if wind.len() < field_layout::faces(shape) {
-        return Outcome::Refused(Refusal::ShortBuffer);
+        return Err(Refusal::ShortBuffer);
     }
     let n = field_layout::elements(shape);
-    let checked = check(records, n);
-    match checked {
-        Outcome::Refused(r) => Outcome::Refused(r),
-        Outcome::Accepted => {
-            lay(wind, records, n);
-            Outcome::Accepted
-        }
-    }
+    check(records, n)?;
+    lay(wind, records, n);
+    Ok(())
 }

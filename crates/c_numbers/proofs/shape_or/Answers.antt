@@ -1,6 +1,6 @@
 use mathlib.Core.Path.{ap}
 use native.Mathlib.Omega.{arith}
-use Rattle.rules.specs.Answers.{file_answer}
+use Rattle.rules.specs.Answers.{answered}
 use Rattle.rules.specs.Field.{Admitted}
 use Rattle.c_numbers.proofs.NumberLaws.{shape-le, shape_is, shape-refusal-is}
 use Rattle.c_numbers.proofs.shape_or.Goals as goal
@@ -8,7 +8,7 @@ use Rattle.c_numbers.proofs.shape_or.Goals.{In-Found}
 
 -- the bounds of the shape that is answered
 bounds : (c : In-Found) → Admitted c.in-Found.shape
-bounds c = c.requires.small c.in-Found.shape (ap file_answer c.in-Found.is)
+bounds c = c.requires.small c.in-Found.shape (ap answered c.in-Found.is)
 
 pub overflow_mul-result : goal.overflow_mul-result
 overflow_mul-result c = let h = bounds (goal.at.overflow_mul-result c).In-Found in record { fits = omega (arith, h.ny-small) }
@@ -26,7 +26,7 @@ pub overflow_cast-result : goal.overflow_cast-result
 overflow_cast-result c = record { sfits = omega (arith, shape-le c.in-Found.shape (bounds (goal.at.overflow_cast-result c).In-Found)) }
 
 pub returns-in-Found : goal.returns-in-Found
-returns-in-Found c = shape_is _ c.in-Found.shape c.requires (ap file_answer c.in-Found.is)
+returns-in-Found c = shape_is _ c.in-Found.shape c.requires (ap answered c.in-Found.is)
 
 pub returns-in-Refused : goal.returns-in-Refused
-returns-in-Refused c = shape-refusal-is _ c.negated.result c.in-Refused.r c.negated.ensures (ap file_answer c.in-Refused.is)
+returns-in-Refused c = shape-refusal-is _ c.negated.result c.in-Refused.r c.negated.ensures (ap answered c.in-Refused.is)

@@ -6,7 +6,7 @@ use Prim.Native.Nat.{◌≤◌, ◌+◌, ◌-◌}
 use native.Mathlib.Omega.{arith}
 use native.Mathlib.Nat.{add-sub_cancel_left}
 use lib.ListN.{length, take, drop}
-use Rattle.rules.specs.Answers.{accepted, reading}
+use Rattle.rules.specs.Answers.{accepted, answered}
 use Rattle.rules.specs.Field.{quadratic, on_grid, element, mass, part}
 use Rattle.rules.specs.Calls.{total_reading, emitted}
 use Rattle.field_layout.specs.Places.{Inside, element_start}
@@ -23,7 +23,7 @@ use Rattle.field.proofs.emission.Goals.{After-element_start-start, After-emit-ar
 
 -- what the reading of the total says
 read : (c : In-Number) → total_reading quadratic c.args.shape c.args.tracer c.args.field.now ≡ accepted c.in-Number.sum
-read c = sym c.total-found.ensures ∙ ap reading c.in-Number.is
+read c = sym c.total-found.ensures ∙ ap answered c.in-Number.is
 
 pub returns-then-not-on_grid : goal.returns-then-not-on_grid
 returns-then-not-on_grid c = let a = c.args in call-refused a.shape a.tracer (emission a.i a.j a.q) a.field.now 8 (emission-off-grid a.shape a.tracer a.i a.j a.q a.field.now _ (read (goal.at.returns-then-not-on_grid c).In-Number) (sym c.on_grid.ensures ∙ c.if-not-on_grid.true))
@@ -77,7 +77,7 @@ emit-requires c =
     record { part_len = part-size 10 r (r + 10 - r) a.field.now (add-sub_cancel_left r 10) (ends (goal.at.emit-requires c).After-element_start-start).0; q_bound = omega (arith, lent-mass (goal.at.emit-requires c).After-emit-arg-1, mass-le-total quadratic a.shape (part quadratic a.shape a.tracer a.field.now) (element a.shape a.i a.j) (element-lt a.shape a.i a.j w.column w.row), h.sum, h.small, c.if-sum-q.false) }
 
 pub returns-in-Refused : goal.returns-in-Refused
-returns-in-Refused c = let a = c.args in call-refused a.shape a.tracer (emission a.i a.j a.q) a.field.now _ (emission-refused a.shape a.tracer a.i a.j a.q a.field.now _ (sym c.total-found.ensures ∙ ap reading c.in-Refused.is))
+returns-in-Refused c = let a = c.args in call-refused a.shape a.tracer (emission a.i a.j a.q) a.field.now _ (emission-refused a.shape a.tracer a.i a.j a.q a.field.now _ (sym c.total-found.ensures ∙ ap answered c.in-Refused.is))
 
 pub returns-else-sum-q : goal.returns-else-sum-q
 unfolding done

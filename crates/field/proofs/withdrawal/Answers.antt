@@ -5,7 +5,7 @@ use Prim.Native.Nat.{◌≤◌, ◌+◌, ◌-◌}
 use native.Mathlib.Omega.{arith}
 use native.Mathlib.Nat.{add-sub_cancel_left}
 use lib.ListN.{length, take, drop}
-use Rattle.rules.specs.Answers.{accepted, reading}
+use Rattle.rules.specs.Answers.{accepted, answered}
 use Rattle.rules.specs.Field.{quadratic, element, mass, part}
 use Rattle.rules.specs.Calls.{withdrawal, done, mass_reading, withdrawn}
 use Rattle.rules.proofs.CallLaws.{length-withdrawn}
@@ -19,7 +19,7 @@ use Rattle.field.proofs.withdrawal.Goals.{After-element_start-start, In-Number}
 
 -- what the reading of the mass says, and with it of the element
 read : (c : In-Number) → mass_reading quadratic c.args.shape c.args.tracer c.args.i c.args.j c.args.field.now ≡ accepted c.in-Number.held
-read c = sym c.mass-found.ensures ∙ ap reading c.in-Number.is
+read c = sym c.mass-found.ensures ∙ ap answered c.in-Number.is
 
 known : (c : In-Number) → Held c.args.shape c.args.tracer c.args.i c.args.j c.args.field.now c.in-Number.held
 known c = let a = c.args in held a.shape a.tracer a.i a.j a.field.now _ (read c)
@@ -57,7 +57,7 @@ withdraw-requires c =
     record { part_len = part-size 10 r (r + 10 - r) a.field.now (add-sub_cancel_left r 10) (ends (goal.at.withdraw-requires c).After-element_start-start).0; part_bound = omega (arith, m, k.is, k.small); q_bound = omega (arith, m, k.is, c.if-held-q.false) }
 
 pub returns-in-Refused : goal.returns-in-Refused
-returns-in-Refused c = let a = c.args in call-refused a.shape a.tracer (withdrawal a.i a.j a.q) a.field.now _ (withdrawal-refused a.shape a.tracer a.i a.j a.field.now a.q _ (sym c.mass-found.ensures ∙ ap reading c.in-Refused.is))
+returns-in-Refused c = let a = c.args in call-refused a.shape a.tracer (withdrawal a.i a.j a.q) a.field.now _ (withdrawal-refused a.shape a.tracer a.i a.j a.field.now a.q _ (sym c.mass-found.ensures ∙ ap answered c.in-Refused.is))
 
 pub returns-else-held-q : goal.returns-else-held-q
 unfolding done

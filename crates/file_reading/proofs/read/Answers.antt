@@ -1,7 +1,7 @@
 -- Reading: the tail's answer and then the checks make the definition's answer; what is read after them is the file's wind and field.
 use mathlib.Core.Path.{◌≡◌, sym, ap, ◌∙◌}
 use lib.ListN.{length}
-use Rattle.rules.specs.Answers.{outcome, accepted}
+use Rattle.rules.specs.Answers.{answered, accepted}
 use Rattle.file_reading.specs.Reading.{tail_answer, tail_reply, shape_reply}
 use Rattle.file_reading.proofs.CheckLaws.{Given, given, Fitting, fitting, read-no-tail, read-refused, read_done}
 use Rattle.file_reading.proofs.read.Goals as goal
@@ -26,7 +26,7 @@ check-checked-requires c = (facts (goal.at.check-checked-requires c).In-Shape).s
 
 -- every check is passed
 passed : (c : In-Accepted) → shape_reply c.in-Shape.shape c.args.file.now (length c.args.field.now) (length c.args.wind.now) ≡ accepted tt
-passed c = sym c.check-checked.ensures ∙ ap outcome c.in-Accepted.is
+passed c = sym c.check-checked.ensures ∙ ap answered c.in-Accepted.is
 
 fits : (c : In-Accepted) → Fitting c.in-Shape.shape c.args.file.now (length c.args.field.now) (length c.args.wind.now)
 fits c = let a = c.args in fitting c.in-Shape.shape a.file.now (length a.field.now) (length a.wind.now) (passed c)
@@ -40,7 +40,7 @@ read_tracers-requires c = let h = fits (goal.at.read_tracers-requires c).In-Acce
 pub returns-in-Refused : goal.returns-in-Refused
 returns-in-Refused c =
     let a = c.args in
-    read-refused a.file.now a.field.now a.wind.now c.in-Shape.shape _ (shaped (goal.at.returns-in-Refused c).In-Shape) (sym c.check-checked.ensures ∙ ap outcome c.in-Refused.is)
+    read-refused a.file.now a.field.now a.wind.now c.in-Shape.shape _ (shaped (goal.at.returns-in-Refused c).In-Shape) (sym c.check-checked.ensures ∙ ap answered c.in-Refused.is)
 
 pub returns-in-Accepted : goal.returns-in-Accepted
 returns-in-Accepted c =

@@ -5,7 +5,7 @@ use Prim.Native.Nat.{◌≤◌}
 use native.Mathlib.Nat.{zero-add}
 use native.Mathlib.Omega.{arith}
 use lib.ListN.{length}
-use Rattle.rules.specs.Answers.{accepted, reading}
+use Rattle.rules.specs.Answers.{accepted, answered}
 use Rattle.rules.specs.Field.{quadratic, admitted}
 use Rattle.rules.specs.Calls.{total_reading}
 use Rattle.rules.specs.Map.{page_length}
@@ -38,11 +38,11 @@ room c = rw c.page_length.ensures at c.if-page-page_length.false
 pub returns-in-Refused : goal.returns-in-Refused
 returns-in-Refused c =
     let a = c.args in
-    page-kept a.shape a.tracer a.field.now a.page.now _ (map-refused a.shape a.tracer a.field.now a.page.now (room (goal.at.returns-in-Refused c).Else-page-page_length) _ (sym c.total-found.ensures ∙ ap reading c.in-Refused.is))
+    page-kept a.shape a.tracer a.field.now a.page.now _ (map-refused a.shape a.tracer a.field.now a.page.now (room (goal.at.returns-in-Refused c).Else-page-page_length) _ (sym c.total-found.ensures ∙ ap answered c.in-Refused.is))
 
 -- what an accepted reading of the total says
 read : (c : After-page-arg-1) → let a = c.args in total_reading quadratic a.shape a.tracer a.field.now ≡ accepted c.in-Number.sum
-read c = sym c.total-found.ensures ∙ ap reading c.in-Number.is
+read c = sym c.total-found.ensures ∙ ap answered c.in-Number.is
 
 pub page-end-requires : goal.page-end-requires
 page-end-requires c =

@@ -2,7 +2,7 @@
 use mathlib.Core.Path.{◌≡◌, sym, ap, ◌∙◌}
 use Prim.Native.Nat.{◌≤◌}
 use native.Mathlib.Omega.{arith}
-use Rattle.rules.specs.Answers.{accepted, file_answer}
+use Rattle.rules.specs.Answers.{accepted, answered}
 use Rattle.rules.specs.Field.{quadratic, faces}
 use Rattle.rules.specs.Program.{file_reply, steps}
 use Rattle.rules.proofs.ShapeLaws.{ranges}
@@ -17,11 +17,11 @@ use Rattle.output.proofs.fill.Goals.{In-Found}
 pub returns-in-Refused : goal.returns-in-Refused
 returns-in-Refused c =
     let a = c.refusal.ensures in
-    record { upper_bound = omega (arith, end-le a, c.requires.out_len); out_after = front-added a ∙ refused-printed c.args.file.now c.args.field.now c.args.wind.now steps _ (sym c.read-answer.ensures.0 ∙ ap file_answer c.in-Refused.is) }
+    record { upper_bound = omega (arith, end-le a, c.requires.out_len); out_after = front-added a ∙ refused-printed c.args.file.now c.args.field.now c.args.wind.now steps _ (sym c.read-answer.ensures.0 ∙ ap answered c.in-Refused.is) }
 
 -- the file was read
 found : (c : In-Found) → let a = c.args in file_reply a.file.now a.field.now a.wind.now ≡ accepted c.in-Found.shape
-found c = sym c.read-answer.ensures.0 ∙ ap file_answer c.in-Found.is
+found c = sym c.read-answer.ensures.0 ∙ ap answered c.in-Found.is
 
 pub tracers-added-requires : goal.tracers-added-requires
 tracers-added-requires c =

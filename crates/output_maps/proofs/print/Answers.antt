@@ -1,7 +1,7 @@
 -- The whole text: by the answer of reading the file it is the refusal, or the pages of the field that was read.
 use mathlib.Core.Path.{sym, ap, subst, ◌∙◌}
 use native.Mathlib.Omega.{arith}
-use Rattle.rules.specs.Answers.{file_answer}
+use Rattle.rules.specs.Answers.{answered}
 use Rattle.rules.specs.Field.{quadratic, element_length}
 use Rattle.rules.specs.Program.{text_of, field_lent, wind_lent, printed_for, pages, map_output}
 use Rattle.file_layout.proofs.ReplyLaws.{read-shown}
@@ -14,16 +14,16 @@ use Rattle.output_maps.proofs.print.Goals as goal
 pub pages-requires : goal.pages-requires
 pages-requires c =
     let g = c.in-Found.shape in
-    let e = sym c.read-answer.ensures.0 ∙ ap file_answer c.in-Found.is in
+    let e = sym c.read-answer.ensures.0 ∙ ap answered c.in-Found.is in
     let s = read-shown quadratic g c.args.file.now _ _ (file-read c.args.file.now _ _ g e) in
     record { sound_field = subst (SoundField g) (sym (c.read-answer.ensures.1.0 ∙ field-taken c.args.file.now _ _ g e)) (read-sound g c.args.file.now _ _ s); shape_in_bounds = omega (arith, pages-fit g s.ranges s.wind-room, c.requires) }
 
 pub returns-in-Refused : goal.returns-in-Refused
 unfolding map_output printed_for field_lent element_length quadratic
 returns-in-Refused c =
-    let it = text-given (same_bytes (refused-printed c.args.file.now field_lent wind_lent pages _ (sym c.read-answer.ensures.0 ∙ ap file_answer c.in-Refused.is)) c.refusal.ensures) in record { value = it.0; prefix_len = it.1.0; out_after = it.1.1 }
+    let it = text-given (same_bytes (refused-printed c.args.file.now field_lent wind_lent pages _ (sym c.read-answer.ensures.0 ∙ ap answered c.in-Refused.is)) c.refusal.ensures) in record { value = it.0; prefix_len = it.1.0; out_after = it.1.1 }
 
 pub returns-in-Found : goal.returns-in-Found
 unfolding map_output printed_for field_lent element_length quadratic text_of pages
 returns-in-Found c =
-    let it = text-given (same_bytes (text-printed c.args.file.now field_lent wind_lent pages c.in-Found.shape _ _ (sym c.read-answer.ensures.0 ∙ ap file_answer c.in-Found.is) c.read-answer.ensures.1.0 c.read-answer.ensures.1.1) c.pages.ensures) in record { value = it.0; prefix_len = it.1.0; out_after = it.1.1 }
+    let it = text-given (same_bytes (text-printed c.args.file.now field_lent wind_lent pages c.in-Found.shape _ _ (sym c.read-answer.ensures.0 ∙ ap answered c.in-Found.is) c.read-answer.ensures.1.0 c.read-answer.ensures.1.1) c.pages.ensures) in record { value = it.0; prefix_len = it.1.0; out_after = it.1.1 }

@@ -4,7 +4,7 @@ use mathlib.Core.Bool.{true}
 use lib.Dec.{T, leb→le, leb}
 use lib.ListN.{length}
 use Rattle.whole.proofs.Cases.{both_yes}
-use Rattle.rules.specs.Answers.{plain, reading}
+use Rattle.rules.specs.Answers.{plain, answered}
 use Rattle.rules.specs.Field.{quadratic, admitted, faces, field_length, Admitted}
 use Rattle.rules.specs.Calls.{wind_sound}
 use Rattle.rules.proofs.ShapeLaws.{ranges}
@@ -57,10 +57,10 @@ pub returns-in-Refused : goal.returns-in-Refused
 unfolding plain
 returns-in-Refused c =
     let a = c.args in
-    sym (ap plain (step-refused a.shape a.tracer a.field.now a.wind.now a.report a.work _ (shape_is (goal.at.returns-in-Refused c).Else-not-admitted) (enough-is (goal.at.returns-in-Refused c).Else-not-lent_enough) (sound-is (goal.at.returns-in-Refused c).Else-not-winds_sound) (sym c.total-found.ensures ∙ ap reading c.in-Refused.is)))
+    sym (ap plain (step-refused a.shape a.tracer a.field.now a.wind.now a.report a.work _ (shape_is (goal.at.returns-in-Refused c).Else-not-admitted) (enough-is (goal.at.returns-in-Refused c).Else-not-lent_enough) (sound-is (goal.at.returns-in-Refused c).Else-not-winds_sound) (sym c.total-found.ensures ∙ ap answered c.in-Refused.is)))
 
 pub returns-in-Number : goal.returns-in-Number
 unfolding plain
 returns-in-Number c =
     let a = c.args in
-    sym (ap plain (step-accepted a.shape a.tracer a.field.now a.wind.now a.report a.work _ (shape_is (goal.at.returns-in-Number c).Else-not-admitted) (enough-is (goal.at.returns-in-Number c).Else-not-lent_enough) (sound-is (goal.at.returns-in-Number c).Else-not-winds_sound) (sym c.total-found.ensures ∙ ap reading c.in-Number.is)))
+    sym (ap plain (step-accepted a.shape a.tracer a.field.now a.wind.now a.report a.work _ (shape_is (goal.at.returns-in-Number c).Else-not-admitted) (enough-is (goal.at.returns-in-Number c).Else-not-lent_enough) (sound-is (goal.at.returns-in-Number c).Else-not-winds_sound) (sym c.total-found.ensures ∙ ap answered c.in-Number.is)))

@@ -8,7 +8,7 @@ use native.Mathlib.Omega.{arith}
 use native.Mathlib.Nat.{add-sub_cancel_left}
 use lib.ListN.{length, take, drop}
 use lib.Seq.{length-take-le}
-use Rattle.rules.specs.Answers.{outcome}
+use Rattle.rules.specs.Answers.{answered}
 use Rattle.rules.specs.Field.{quadratic, part, total}
 use Rattle.rules.specs.Step.{tracer_step}
 use Rattle.rules.specs.Calls.{step, lent, wind_at, done, call}
@@ -24,7 +24,7 @@ use Rattle.step.proofs.step.Goals.{After-elements_length, After-work-1, After-wo
 
 -- what the checks have shown
 facts : (c : In-Accepted) → Stepping c.args.shape c.args.tracer c.args.field.now c.args.wind.now (length c.args.report.now) (length c.args.work.now)
-facts c = stepping c.args.shape c.args.tracer c.args.field.now c.args.wind.now (length c.args.report.now) (length c.args.work.now) (sym c.check-checked.ensures ∙ ap outcome c.in-Accepted.is)
+facts c = stepping c.args.shape c.args.tracer c.args.field.now c.args.wind.now (length c.args.report.now) (length c.args.work.now) (sym c.check-checked.ensures ∙ ap answered c.in-Accepted.is)
 
 pub tracer_start-start-requires : goal.tracer_start-start-requires
 tracer_start-start-requires c = let h = facts (goal.at.tracer_start-start-requires c).In-Accepted in record { admitted = h.shape; tracer_lt_tracers = h.tracer }
@@ -79,7 +79,7 @@ pub returns-in-Refused : goal.returns-in-Refused
 returns-in-Refused c =
     let a = c.args in
     let l = lent a.wind.now a.report.now a.work.now in
-    let e = plain-refused (call quadratic a.shape a.tracer (step l) a.field.now).reply _ (sym c.check-checked.ensures ∙ ap outcome c.in-Refused.is) in
+    let e = plain-refused (call quadratic a.shape a.tracer (step l) a.field.now).reply _ (sym c.check-checked.ensures ∙ ap answered c.in-Refused.is) in
     let q = call-refused a.shape a.tracer (step l) a.field.now _ e in
     (q.0, (q.1, (report-refused _ _ a.report.now e, work-refused a.shape _ _ a.work.now e)))
 

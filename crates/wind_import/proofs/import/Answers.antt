@@ -4,7 +4,7 @@ use mathlib.Core.Bool.{true}
 use Prim.Native.Nat.{◌≤◌}
 use native.Mathlib.Omega.{arith}
 use lib.ListN.{length}
-use Rattle.rules.specs.Answers.{accepted, outcome}
+use Rattle.rules.specs.Answers.{accepted, answered}
 use Rattle.rules.specs.Field.{admitted, faces}
 use Rattle.rules.proofs.ShapeLaws.{admitted-is, elements-le}
 use Rattle.wind_import.proofs.ImportLaws.{records_reply, import-2, import-4, import-refused, import-done}
@@ -32,7 +32,7 @@ elements-n-requires c = admitted-is _ (shape (goal.at.elements-n-requires c).Els
 
 -- the first walk has accepted
 all-passed : (c : In-Accepted) → accepted tt ≡ records_reply c.args.records.now c.elements-n.result
-all-passed c = sym (ap outcome c.in-Accepted.is) ∙ c.check-checked.ensures
+all-passed c = sym (ap answered c.in-Accepted.is) ∙ c.check-checked.ensures
 
 pub lay-requires : goal.lay-requires
 lay-requires c =
@@ -41,7 +41,7 @@ lay-requires c =
 
 pub returns-in-Refused : goal.returns-in-Refused
 returns-in-Refused c =
-    import-refused _ _ _ (shape (goal.at.returns-in-Refused c).Else-not-admitted) (room (goal.at.returns-in-Refused c).Else-wind-faces) _ c.elements-n.ensures _ (sym (ap outcome c.in-Refused.is) ∙ c.check-checked.ensures)
+    import-refused _ _ _ (shape (goal.at.returns-in-Refused c).Else-not-admitted) (room (goal.at.returns-in-Refused c).Else-wind-faces) _ c.elements-n.ensures _ (sym (ap answered c.in-Refused.is) ∙ c.check-checked.ensures)
 
 pub returns-in-Accepted : goal.returns-in-Accepted
 returns-in-Accepted c =
