@@ -1,15 +1,15 @@
 -- Answers as numbers.
 use mathlib.Core.Path.{◌≡◌, refl, sym, ap, subst, ◌∙◌}
 use mathlib.Core.Logic.{◌≢◌}
-use Prim.Native.Nat.{ℕ, zero, suc, ◌≤◌, ◌<◌}
+use Prim.Native.Nat.{ℕ, zero, suc, ◌≤◌}
 use native.Mathlib.Omega.{arith}
-use lib.IntN.{ℤ, pos, neg_ℤ, ◌-ℤ◌, +ℤ_idl}
+use lib.IntN.{ℤ, pos, neg_ℤ}
 use mir.Syntax.{w64}
 use mir.Val.{to_z, of_z}
 use mir.Facts.{to_z_pos}
 use Rattle.whole.specs.Bound.{Within, Are}
-use Rattle.whole.proofs.BoundLaws.{within-neg, within-le}
-use Rattle.whole.proofs.Sizes.{exacts, exact, are-eq, read_back}
+use Rattle.whole.proofs.BoundLaws.{within-le}
+use Rattle.whole.proofs.Sizes.{are-eq, read_back}
 use Rattle.rules.specs.declared.Shape.{Shape}
 use Rattle.rules.specs.declared.Refusal.{Refusal}
 use Rattle.rules.specs.Answers.{Answer, accepted, refused, number}
@@ -22,19 +22,6 @@ unfolding number_or
 number_is a n h e =
     let small = h.small n e in
     record { same = to_z_pos w64 (omega arith) ∙ sym (ap number_or e); bound = subst (λ x. Within limit (number_or x)) (sym e) (record { within = small }) }
-
--- a refusal's number is a u8
-pub refusal-small : (n : ℕ) → n < 256 → Within 255 (to_z w64 n)
-refusal-small n l = subst (Within 255) (sym (to_z_pos w64 {n = n} (omega arith))) (record { within = omega arith })
-
-below-zero : (z : ℤ) → Within 255 z → to_z w64 (of_z w64 (pos 0 -ℤ z)) ≡ pos 0 -ℤ z
-below-zero z h = exact (search exacts depth 20) tt
-
-pub negated-is : (n : ℕ) (r : Refusal) → n < 256 → n ≡ number r → Are 255 (to_z w64 (of_z w64 (pos 0 -ℤ to_z w64 n))) (neg_ℤ (pos (number r)))
-negated-is n r l e = record {
-  same = below-zero (to_z w64 n) (refusal-small n l) ∙ ap (λ z. pos 0 -ℤ z) (to_z_pos w64 {n = n} (omega arith)) ∙ +ℤ_idl (neg_ℤ (pos n)) ∙ ap (λ m. neg_ℤ (pos m)) e;
-  bound = within-neg {a = pos (number r)} (record { within = omega arith });
-}
 
 -- what a function f of answers gives for a refusal
 refusal-of : {A : Type 0} (f : Answer A → ℤ) (a : Answer A) (z : ℤ) (r : Refusal) → f (refused (number r)) ≡ neg_ℤ (pos (number r)) → Are 255 z (neg_ℤ (pos (number r)))

@@ -7,7 +7,7 @@ ghost use Rattle.rules.specs.Answers.{number, answered};
 ghost use Rattle.rules.specs.Field.{limit};
 ghost use Rattle.c_numbers.specs.Numbers.{face_of, code, number_or, Small, shape_or, AdmittedShape};
 
-use rules::{Face, Refusal, Way};
+use rules::{Face, Refusal, Shape, Way};
 
 // 0 for an accepted call, else the refusal's number.
 pub fn code(answer: Result<(), Refusal>) -> u8

@@ -20,13 +20,9 @@ pub(crate) fn front(call: &[u8], edge: &[u8]) {
     text(b": ");
 }
 
-fn wide(n: u8) -> u64 {
-    n as u64
-}
-
 fn refusal(r: Refusal) {
     text(b"refused ");
-    number(wide(rules::refusal_number(r)));
+    number(u64::from(u8::from(r)));
 }
 
 pub(crate) fn outcome(answer: Result<(), Refusal>) {

@@ -1,16 +1,10 @@
 -- The two halves of the checks of file reading: those of the tail, and those that need the shape.
 use Rattle.std.specs.Prelude.{◌&&◌, List, [], ◌∷◌, ℕ, leb}
 use Rattle.rules.specs.declared.Shape.{Shape}
-use Rattle.rules.specs.Answers.{Answer, accepted, refused, Check, check, answer, number}
+use Rattle.rules.specs.Answers.{Answer, Check, check, answer}
 use Rattle.rules.specs.Field.{quadratic, admitted, faces, field_length}
 use Rattle.rules.specs.Calls.{wind_sound}
 use Rattle.rules.specs.FieldFile.{tail_shape, tail_right, offsets_right, file_wind, file_field, field_sound}
-use Rattle.file_reading.specs.declared.tail.Tail.{Tail}
-
--- each case of the tail's answer, in the paper's numbers and values
-abbrev pub tail_answer : Tail → Answer Shape
-tail_answer (Tail.Shape g) = accepted g
-tail_answer (Tail.Refused r) = refused (number r)
 
 -- 1 and 2
 abbrev pub tail_checks : List ℕ → List Check

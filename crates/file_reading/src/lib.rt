@@ -7,9 +7,8 @@ ghost use Rattle.whole.specs.Table.{overwrite};
 ghost use Rattle.rules.specs.Field.{quadratic, faces, field_length, Admitted};
 ghost use Rattle.rules.specs.FieldFile.{file_length, file_wind, file_field, ReadGives};
 ghost use Rattle.rules.specs.Answers.{answers};
-ghost use Rattle.file_reading.specs.Reading.{tail_answer};
 
-use rules::Shape;
+use rules::{Refusal, Shape};
 
 mod checks; // checks.rt: the checks that need the shape
 mod tail; // tail.rt: the last 12 bytes

@@ -1,12 +1,12 @@
 // The tail of a file: its last 12 bytes.
-ghost use Rattle.std.specs.Prelude.{◌≡◌};
-ghost use Rattle.file_reading.specs.Reading.{tail_answer, tail_reply};
+ghost use Rattle.rules.specs.Answers.{answers};
+ghost use Rattle.file_reading.specs.Reading.{tail_reply};
 
 use rules::{Refusal, Shape};
 
 // Reads the tail: the shape, or why there is none. "The reader starts at the end."
 pub(crate) fn read_tail(file: &[u8]) -> Result<Shape, Refusal>
-    ensures { tail_answer result ≡ tail_reply file.now }
+    ensures { answers result (tail_reply file.now) }
 {
     let n = file.len();
     if n < 12 {

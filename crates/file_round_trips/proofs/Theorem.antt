@@ -11,7 +11,7 @@ use Rattle.rules.specs.declared.Shape.{Shape}
 use Rattle.rules.specs.Answers.{accepted, answered, answers}
 use Rattle.rules.specs.Field.{quadratic, admitted, faces, field_length}
 use Rattle.rules.specs.Bytes.{byte_at}
-use Rattle.rules.specs.FieldFile.{file_length, read_reply, read_field, read_wind, write_reply, write_file, finds, ReadGives, WriteGives}
+use Rattle.rules.specs.FieldFile.{file_length, read_reply, read_field, read_wind, write_reply, write_file, ReadGives, WriteGives}
 use Rattle.rules.proofs.QuadraticLaws.{weights-above}
 use Rattle.rules.proofs.ShapeLaws.{ranges}
 use Rattle.rules.specs.declared.Refusal.{Refusal}
@@ -39,13 +39,9 @@ pub read-is-written : (g : Shape) (file field : List ℕ) (wind : List ℤ) (out
 read-is-written g file field wind out = read-is-written-of quadratic g file field wind out
 
 -- ---- the same of the calls, by their contracts
-found-is : (r : Result Shape Refusal) (g : Shape) → file_answer r ≡ accepted g → r ≡ Ok g
-found-is (Ok s) g e = cc
-found-is (Err x) g e = let z : ◌≡◌ {A = ℕ} 0 1 = cc in absurd (omega arith)
-
-number_is : (r : Result ℕ Refusal) (n : ℕ) → reading r ≡ accepted n → r ≡ Ok n
-number_is (Ok m) n e = cc
-number_is (Err x) n e = let z : ◌≡◌ {A = ℕ} 0 1 = cc in absurd (omega arith)
+accepted-is : {A : Type 0} (r : Result A Refusal) (x : A) → answered r ≡ accepted x → r ≡ Ok x
+accepted-is (Ok y) x e = cc
+accepted-is (Err n) x e = let z : ◌≡◌ {A = ℕ} 0 1 = cc in absurd (omega arith)
 
 -- `write` answered n; `read` is lent the first n bytes of what it left
 pub write-then-read : (g : Shape) (field : List ℕ) (wind : List ℤ) (out out' : List ℕ) (n : ℕ) → WriteGives quadratic g field wind out (answers (Ok n)) out'
@@ -55,7 +51,7 @@ write-then-read g field wind out out' n w field₀ wind₀ room-field room-wind 
     let t = written-is-read g field field₀ wind wind₀ out n (sym w.0) room-field room-wind in
     let same : take n out' ≡ take n (write_file quadratic g field wind out) = ap (take n) w.1 in
     record {
-      answer = found-is r g (q.0 ∙ ap (λ l. read_reply quadratic l field₀ wind₀) same ∙ t.shape);
+      answer = accepted-is r g (q.0 ∙ ap (λ l. read_reply quadratic l field₀ wind₀) same ∙ t.shape);
       numbers = q.1.0 ∙ ap (λ l. read_field quadratic l field₀ wind₀) same ∙ t.numbers;
       winds = q.1.1 ∙ ap (λ l. read_wind quadratic l field₀ wind₀) same ∙ t.winds;
     }
@@ -67,6 +63,6 @@ pub read-then-write : (file field : List ℕ) (wind : List ℤ) (g : Shape) (fie
 read-then-write file field wind g field' wind' below q out room r out' w =
     let t = read-is-written g file field wind out below (sym q.0) room in
     record {
-      answer = number_is r (length file) (w.0 ∙ (λ i. write_reply quadratic g (q.1.0 i) (q.1.1 i) out) ∙ t.size);
+      answer = accepted-is r (length file) (w.0 ∙ (λ i. write_reply quadratic g (q.1.0 i) (q.1.1 i) out) ∙ t.size);
       bytes = w.1 ∙ (λ i. write_file quadratic g (q.1.0 i) (q.1.1 i) out) ∙ t.bytes;
     }

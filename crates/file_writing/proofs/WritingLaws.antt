@@ -10,7 +10,7 @@ use lib.ListN.{length, get_or, set, take, drop, length-append}
 use Rattle.whole.specs.Table.{blocks, overwrite}
 use Rattle.whole.proofs.OverwriteLaws.{part_at, length-overwrite}
 use Rattle.whole.proofs.TableLaws.{blocks_more, blocks-cong}
-use Rattle.std.specs.Prelude.{Result, Ok, Err}
+use Rattle.std.specs.Prelude.{Result, Ok, Err, is_err}
 use Rattle.rules.specs.declared.Shape.{Shape}
 use Rattle.rules.specs.Field.{quadratic, part_length, field_length, part, sound, Admitted}
 use Rattle.rules.specs.Bytes.{bytes32}
@@ -43,12 +43,13 @@ module _ (g : Shape) (field : List ℕ) (room : field_length quadratic g ≤ len
   lent_length = ap length lent_is ∙ length-part quadratic g s field there room
 
   -- what the search of its part finds
-  module _ (r : Result ℕ Refusal) (found : reading r ≡ searched g (take (start + w - start) (drop start field))) where
-    pub found-sound : (t : ℕ) → r ≡ Ok t → sound quadratic g (part quadratic g s field) ≡ true
-    found-sound t e = searched-yes g (part quadratic g s field) t (sym (found ∙ ap (searched g) lent_is) ∙ ap answered e)
+  pub found-sound : (r : Result ℕ Refusal) → answered r ≡ searched g (take (start + w - start) (drop start field)) → is_err r ≡ false → sound quadratic g (part quadratic g s field) ≡ true
+  found-sound (Ok t) found e = searched-yes g (part quadratic g s field) t (sym (found ∙ ap (searched g) lent_is))
+  found-sound (Err x) found e = let z : ◌≡◌ {A = ℕ} 0 1 = cc in absurd (omega arith)
 
-    pub found-unsound : (x : Refusal) → r ≡ Err x → sound quadratic g (part quadratic g s field) ≡ false
-    found-unsound x e = searched-no g (part quadratic g s field) (number x) (sym (found ∙ ap (searched g) lent_is) ∙ ap answered e)
+  pub found-unsound : (r : Result ℕ Refusal) → answered r ≡ searched g (take (start + w - start) (drop start field)) → is_err r ≡ true → sound quadratic g (part quadratic g s field) ≡ false
+  found-unsound (Ok t) found e = let z : ◌≡◌ {A = ℕ} 0 1 = cc in absurd (omega arith)
+  found-unsound (Err x) found e = searched-no g (part quadratic g s field) (number x) (sym (found ∙ ap (searched g) lent_is))
 
 -- ---- the sections of the tracers, one after the other from place a of the file on
 module _ (field file₀ : List ℕ) (a : ℕ) where

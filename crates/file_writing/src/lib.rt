@@ -10,7 +10,7 @@ ghost use Rattle.rules.specs.FieldFile.{section_start, file_length, tail, file_o
 ghost use Rattle.rules.specs.Answers.{answers};
 
 use file_layout::MARK;
-use rules::Shape;
+use rules::{Refusal, Shape};
 
 mod checks; // checks.rt: the checks of a writing
 

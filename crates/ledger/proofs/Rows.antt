@@ -11,7 +11,7 @@ use Rattle.whole.proofs.Cases.{both_yes}
 use Rattle.whole.proofs.OverwriteLaws.{front-is}
 use Rattle.whole.proofs.TableLaws.{length-table}
 use Rattle.rules.specs.declared.Shape.{Shape}
-use Rattle.rules.specs.declared.Outcome.TheVariants.{Accepted}
+use Rattle.std.specs.Prelude.{Ok}
 use Rattle.rules.specs.Answers.{Answer, accepted, refused, plain, answered, answers}
 use Rattle.rules.specs.Field.{quadratic, faces, field_length, part, remainder, mass, total, limit}
 use Rattle.rules.specs.Calls.{Operation, load, emission, withdrawal, step, Lent, lengths_lent, lent, Reply, no_report, done, call, fresh_reply, fresh_field, fresh_wind, zero_field, zero_wind, report_after, FreshGives, fresh_checks}
@@ -97,7 +97,7 @@ module _ (g : Shape) (b : Buffers) where
 never : (n : ℕ) → ◌≡◌ {A = Answer (Unit {0})} (accepted tt) (refused n) → ⊥
 never n e = let z : ◌≡◌ {A = ℕ} 0 1 = cc in omega arith
 
-module _ (g : Shape) (field : List ℕ) (wind : List ℤ) (x : State) (h : FreshGives quadratic g field wind (answers Accepted) x.field x.wind) where
+module _ (g : Shape) (field : List ℕ) (wind : List ℤ) (x : State) (h : FreshGives quadratic g field wind (answers (Ok tt)) x.field x.wind) where
   fresh-room : field_length quadratic g ≤ length field
   unfolding fresh_reply
   fresh-room = answer-ind (λ a. accepted tt ≡ a → field_length quadratic g ≤ length field)
@@ -113,7 +113,7 @@ module _ (g : Shape) (field : List ℕ) (wind : List ℤ) (x : State) (h : Fresh
       λ i. record { field = f i; wind = w i }
 
 -- DEMAND 3 over the calls: a call `fresh` that was accepted, and then every row of calls that keep their contracts
-pub demand-3-over-calls : (g : Shape) (b : Buffers) (field : List ℕ) (wind : List ℤ) (x : State) → FreshGives quadratic g field wind (answers Accepted) x.field x.wind
+pub demand-3-over-calls : (g : Shape) (b : Buffers) (field : List ℕ) (wind : List ℤ) (x : State) → FreshGives quadratic g field wind (answers (Ok tt)) x.field x.wind
     → (calls : List Call) (ds : List Given) (z : State) → Row g b calls x ds z → AfterRow g b x calls ds z
 demand-3-over-calls g b field wind x started calls ds z row =
     let h = subst (λ y. Demand3 quadratic g b y 36 limit calls) (sym (fresh-is g field wind x started)) (demand-3 g b field wind (fresh-room g field wind x started) calls) in

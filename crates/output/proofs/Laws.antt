@@ -15,6 +15,9 @@ use Rattle.rules.specs.declared.Shape.{Shape}
 use Rattle.rules.specs.declared.Refusal.{Refusal}
 use Rattle.rules.specs.declared.Way.{Way}
 use Rattle.rules.specs.declared.Way.TheVariants.{East, North}
+use Rattle.std.specs.Prelude.{Result, Ok, Err}
+use Rattle.std.specs.Result.{IsErrAnd}
+use Rattle.std.proofs.lemmas.Result.{err_from_is_err_and}
 use Rattle.rules.specs.Answers.{Answer, accepted, refused, plain, number}
 use Rattle.rules.specs.Field.{quadratic, faces, part}
 use Rattle.rules.specs.Grid.{face_index}
@@ -26,8 +29,6 @@ use Rattle.rules.proofs.StepLaws.{report-length}
 use Rattle.text.specs.Added.{Added}
 use Rattle.text.proofs.AddedLaws.{none-added, wider, then, added-room}
 use Rattle.rules.proofs.GridLaws.{face-lt}
-use Rattle.output.specs.declared.Lines.{Lines}
-use Rattle.output.specs.declared.Lines.TheVariants.{UpTo, Refused}
 use Rattle.output.specs.AddedLines.{tracer_room, LinesAdded, AddedOrRefused}
 use Rattle.step.proofs.CheckLaws.{stepping, plain-refused, report-accepted}
 
@@ -129,18 +130,23 @@ pub room-left : (g : Shape) (wind : List ℤ) {first now' old mid new : List ℕ
 room-left g wind {s = s} {n = n} a p h room = added-room (then a p.added) (tracer_room g) (omega (arith, part_room (tracer_room g) {s = s} {n = n} h))
 
 -- where lines were added
-pub added_of : (n at' : ℕ) (a : Answer Printed) (field' old new : List ℕ) {end : ℕ} {r : Lines} → r ≡ UpTo end → AddedOrRefused n at' a field' old new r → LinesAdded n at' a field' old new end
-added_of n at' a field' old new e t = subst (λ (x : Lines). AddedOrRefused n at' a field' old new x) e t
+pub added_of : (n at' : ℕ) (a : Answer Printed) (field' old new : List ℕ) {end : ℕ} {r : Result ℕ Refusal} → r ≡ Ok end → AddedOrRefused n at' a field' old new r → LinesAdded n at' a field' old new end
+added_of n at' a field' old new e t = subst (λ (x : Result ℕ Refusal). AddedOrRefused n at' a field' old new x) e t
 
-pub refusal-of : (n at' : ℕ) (a : Answer Printed) (field' old new : List ℕ) {q : Refusal} {r : Lines} → r ≡ Refused q → AddedOrRefused n at' a field' old new r → a ≡ refused (number q)
-refusal-of n at' a field' old new e t = subst (λ (x : Lines). AddedOrRefused n at' a field' old new x) e t
+pub refusal-of : (n at' : ℕ) (a : Answer Printed) (field' old new : List ℕ) {q : Refusal} {r : Result ℕ Refusal} → r ≡ Err q → AddedOrRefused n at' a field' old new r → a ≡ refused (number q)
+refusal-of n at' a field' old new e t = subst (λ (x : Result ℕ Refusal). AddedOrRefused n at' a field' old new x) e t
+
+-- where a refusal is passed on
+pub passed : (n at' : ℕ) (a : Answer Printed) (field' old new : List ℕ) (r : Result ℕ Refusal) (q : Refusal) → IsErrAnd r (λ y. y ≡ q) → a ≡ refused (number q) → AddedOrRefused n at' a field' old new r
+passed n at' a field' old new r q h e =
+    let p = err_from_is_err_and r h in
+    subst (λ (x : Result ℕ Refusal). AddedOrRefused n at' a field' old new x) (sym p.1) (e ∙ ap (λ z. refused (number z)) (sym p.2))
 
 -- where a tracer is refused, the run is
-pub all-refused : (g : Shape) (wind : List ℤ) (first : List ℕ) (m k : ℕ) (x y z new : List ℕ) {s n start at' : ℕ} {mid field' old : List ℕ} {r : Lines} {q : Refusal} → TracersAdded g wind s first field' start old mid at' → s < n
-    → r ≡ Refused q → AddedOrRefused m at' (stepped g wind s field') x mid new r → AddedOrRefused k 0 (up_to g wind n first) y z new r
-all-refused g wind first m k x y z new {s = s} {n = n} {at' = at'} {mid = mid} {field' = field'} {q = q} p h e t =
-    let f = refusal-of m at' (stepped g wind s field') x mid new e t in
-    subst (λ (r : Lines). AddedOrRefused k 0 (up_to g wind n first) y z new r) (sym e) (stays-refused g wind first (number q) (s + 1) n (tracers-refused g wind first p (number q) f) (omega arith))
+pub all-refused : (g : Shape) (wind : List ℤ) (first : List ℕ) (k : ℕ) (y z new : List ℕ) {s n start at' : ℕ} {mid field' old : List ℕ} → TracersAdded g wind s first field' start old mid at' → s < n
+    → (r : Result ℕ Refusal) (q : Refusal) → IsErrAnd r (λ y. y ≡ q) → stepped g wind s field' ≡ refused (number q) → AddedOrRefused k 0 (up_to g wind n first) y z new r
+all-refused g wind first k y z new {s = s} {n = n} p h r q i e =
+    passed k 0 (up_to g wind n first) y z new r q i (stays-refused g wind first (number q) (s + 1) n (tracers-refused g wind first p (number q) e) (omega arith))
 
 -- the whole text
 pub all-added : (g : Shape) (wind : List ℤ) (n : ℕ) (first now' : List ℕ) (start : ℕ) (old mid new : List ℕ) (end : ℕ) → Added 68 0 (grid_line g) old mid start → TracersAdded g wind n first now' start mid new end

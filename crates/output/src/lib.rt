@@ -6,7 +6,7 @@ ghost use Rattle.io.specs.Counts.{IsPrefixLen};
 ghost use Rattle.whole.specs.Table.{overwrite};
 ghost use Rattle.rules.specs.Field.{faces, Admitted};
 ghost use Rattle.rules.specs.Program.{report_lent, work_lent, stepped, up_to, printed, steps, output};
-ghost use Rattle.output.specs.AddedLines.{tracer_room, AddedOrRefused};
+ghost use Rattle.output.specs.AddedLines.{tracer_room, AddedOrRefused, LinesOrRefused};
 
 use program_file::{ELEMENTS, SMOKES};
 use rules::element::NUMBERS;
@@ -64,7 +64,27 @@ fn tracers(
     Ok(at)
 }
 
-// The whole text at the front of the buffer. All buffers but the file are `print`'s own: only the text in them is used after this.
+// Reads the file, steps its tracers and answers where their lines end. All buffers but the file are `print`'s own: only the text in them is
+// used after this.
+fn lines(
+    file: &[u8],
+    out: &mut [u8],
+    field: &mut [u32],
+    wind: &mut [i16],
+    report: &mut [i32],
+    work: &mut [i64],
+) -> Result<usize, Refusal>
+    requires wind_len { length wind.old ≡ report_lent }
+    requires report_len { length report.old ≡ report_lent }
+    requires work_len { length work.old ≡ work_lent }
+    requires out_len { length out.old ≡ 200000 }
+    ensures { LinesOrRefused (printed steps file.now field.old wind.old) out.new result }
+{
+    let shape = program_file::read(file, field, wind)?;
+    tracers(out, field, wind, report, work, shape)
+}
+
+// The whole text at the front of the buffer: the lines, or the refusal alone.
 fn fill(
     file: &[u8],
     out: &mut [u8],
@@ -80,12 +100,9 @@ fn fill(
     ensures upper_bound { result ≤ 200000 }
     ensures out_after { take result out.new ≡ printed steps file.now field.old wind.old }
 {
-    match program_file::read(file, field, wind) {
+    match lines(file, out, field, wind, report, work) {
+        Ok(end) => end,
         Err(r) => program_file::refusal(out, r),
-        Ok(shape) => match tracers(out, field, wind, report, work, shape) {
-            Err(r) => program_file::refusal(out, r),
-            Ok(end) => end,
-        },
     }
 }
 

@@ -7,7 +7,7 @@ ghost use Rattle.rules.specs.Program.{refused_line};
 ghost use Rattle.text.specs.Added.{Added};
 ghost use Rattle.program_file.specs.FileTaken.{FileGives};
 
-use rules::Refusal;
+use rules::{Refusal, Shape};
 
 // "It lends buffers for exactly 128 elements and eight smokes".
 pub const ELEMENTS: usize = 128;

@@ -6,7 +6,11 @@ use Prim.Native.Nat.{ℕ}
 use native.Mathlib.Omega.{arith}
 use lib.Dec.{T}
 use Rattle.whole.proofs.Cases.{cond_yes}
-use Rattle.rules.specs.Answers.{Answer, accepted, refused, Check, answer, after}
+use Rattle.std.specs.Prelude.{Result}
+use Rattle.std.specs.Result.{IsErrAnd}
+use Rattle.std.proofs.lemmas.Result.{err_from_is_err_and}
+use Rattle.rules.specs.declared.Refusal.{Refusal}
+use Rattle.rules.specs.Answers.{Answer, accepted, refused, Check, answer, answered, number, after}
 
 -- every check of the list is passed
 abbrev pub Passed : List Check → Type 0
@@ -68,3 +72,7 @@ after-refused a n x y e = ap (λ z. after z x y) e
 pub after-accepted : {A B : Type 0} (a : Answer A) (r : A) (x y : B) → a ≡ accepted r → after a x y ≡ x
 unfolding after
 after-accepted a r x y e = ap (λ z. after z x y) e
+
+-- what a call answers that passes another's refusal on
+pub passed_on : {A : Type 0} (r : Result A Refusal) (x : Refusal) → IsErrAnd r (λ y. y ≡ x) → answered r ≡ refused (number x)
+passed_on r x h = let p = err_from_is_err_and r h in rw (p.1, p.2) refl

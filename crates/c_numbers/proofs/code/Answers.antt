@@ -3,10 +3,10 @@ use Rattle.rules.specs.Answers.{answered}
 use Rattle.c_numbers.specs.Numbers.{code}
 use Rattle.c_numbers.proofs.code.Goals as goal
 
-pub returns-in-Accepted : goal.returns-in-Accepted
+pub returns-in-Ok : goal.returns-in-Ok
 unfolding code
-returns-in-Accepted c = sym (ap (λ a. code (answered a)) c.in-Accepted.is)
+returns-in-Ok c = sym (ap (λ a. code (answered a)) c.in-Ok.is)
 
-pub returns-in-Refused : goal.returns-in-Refused
+pub returns-in-Err : goal.returns-in-Err
 unfolding code
-returns-in-Refused c = c.refusal_number.ensures ∙ sym (ap (λ a. code (answered a)) c.in-Refused.is)
+returns-in-Err c = c.into.ensures ∙ sym (ap (λ a. code (answered a)) c.in-Err.is)

@@ -5,10 +5,10 @@ use Rattle.c_numbers.proofs.NumberLaws.{number_is, refusal_is}
 use Rattle.c_numbers.proofs.number_or.Goals as goal
 
 pub overflow_cast-result : goal.overflow_cast-result
-overflow_cast-result c = let h = c.requires.small c.in-Number.n (ap answered c.in-Number.is) in record { sfits = omega arith }
+overflow_cast-result c = let h = c.requires.small c.in-Ok.n (ap answered c.in-Ok.is) in record { sfits = omega arith }
 
-pub returns-in-Number : goal.returns-in-Number
-returns-in-Number c = number_is _ _ c.requires (ap answered c.in-Number.is)
+pub returns-in-Ok : goal.returns-in-Ok
+returns-in-Ok c = number_is _ _ c.requires (ap answered c.in-Ok.is)
 
-pub returns-in-Refused : goal.returns-in-Refused
-returns-in-Refused c = refusal_is _ c.negated.result c.in-Refused.r c.negated.ensures (ap answered c.in-Refused.is)
+pub returns-in-Err : goal.returns-in-Err
+returns-in-Err c = refusal_is _ c.negated.result c.in-Err.r c.negated.ensures (ap answered c.in-Err.is)

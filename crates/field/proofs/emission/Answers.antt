@@ -1,12 +1,13 @@
 -- Emission: each refusal is the definition's by what the reading of the total says; an accepted one writes the element in place, which is
 -- the tracer's part with that element replaced.
-use mathlib.Core.Path.{◌≡◌, sym, ap, ◌∙◌}
+use mathlib.Core.Path.{◌≡◌, sym, ◌∙◌}
 use mathlib.Core.Bool.{true}
 use Prim.Native.Nat.{◌≤◌, ◌+◌, ◌-◌}
 use native.Mathlib.Omega.{arith}
 use native.Mathlib.Nat.{add-sub_cancel_left}
 use lib.ListN.{length, take, drop}
-use Rattle.rules.specs.Answers.{accepted, answered}
+use Rattle.rules.proofs.AnswerLaws.{passed_on}
+use Rattle.rules.specs.Answers.{accepted}
 use Rattle.rules.specs.Field.{quadratic, on_grid, element, mass, part}
 use Rattle.rules.specs.Calls.{total_reading, emitted}
 use Rattle.field_layout.specs.Places.{Inside, element_start}
@@ -19,14 +20,14 @@ use Rattle.rules.proofs.GridLaws.{element-lt}
 use Rattle.field.proofs.CheckLaws.{found, inside, call-refused, call-accepted, emission-refused, emission-off-grid, emission-above, emission-accepted}
 use Rattle.field.proofs.InPlaceLaws.{mass-lent, emitted-lent, back-in-place}
 use Rattle.field.proofs.emission.Goals as goal
-use Rattle.field.proofs.emission.Goals.{After-element_start-start, After-emit-arg-1, Else-not-on_grid, In-Number}
+use Rattle.field.proofs.emission.Goals.{After-element_start-start, After-emit-arg-1, Else-not-on_grid, In_ok-sum}
 
 -- what the reading of the total says
-read : (c : In-Number) → total_reading quadratic c.args.shape c.args.tracer c.args.field.now ≡ accepted c.in-Number.sum
-read c = sym c.total-found.ensures ∙ ap answered c.in-Number.is
+read : (c : In_ok-sum) → total_reading quadratic c.args.shape c.args.tracer c.args.field.now ≡ accepted c.in_ok-sum.sum
+read c = sym c.in_ok-sum.ensures
 
 pub returns-then-not-on_grid : goal.returns-then-not-on_grid
-returns-then-not-on_grid c = let a = c.args in call-refused a.shape a.tracer (emission a.i a.j a.q) a.field.now 8 (emission-off-grid a.shape a.tracer a.i a.j a.q a.field.now _ (read (goal.at.returns-then-not-on_grid c).In-Number) (sym c.on_grid.ensures ∙ c.if-not-on_grid.true))
+returns-then-not-on_grid c = let a = c.args in call-refused a.shape a.tracer (emission a.i a.j a.q) a.field.now 8 (emission-off-grid a.shape a.tracer a.i a.j a.q a.field.now _ (read (goal.at.returns-then-not-on_grid c).In_ok-sum) (sym c.on_grid.ensures ∙ c.if-not-on_grid.true))
 
 grid : (c : Else-not-on_grid) → on_grid c.args.shape c.args.i c.args.j ≡ true
 grid c = sym c.on_grid.ensures ∙ c.if-not-on_grid.false
@@ -35,13 +36,13 @@ within : (c : Else-not-on_grid) → Inside c.args.shape c.args.tracer c.args.i c
 within c = let a = c.args in inside a.shape a.tracer a.i a.j a.field.now _ (read c.before.before) (grid c)
 
 pub overflow_sub-sum : goal.overflow_sub-sum
-overflow_sub-sum c = let a = c.args in (found a.shape a.tracer a.field.now _ (read (goal.at.overflow_sub-sum c).In-Number)).small
+overflow_sub-sum c = let a = c.args in (found a.shape a.tracer a.field.now _ (read (goal.at.overflow_sub-sum c).In_ok-sum)).small
 
 pub returns-then-sum-q : goal.returns-then-sum-q
 returns-then-sum-q c =
     let a = c.args in
-    let h = found a.shape a.tracer a.field.now _ (read (goal.at.returns-then-sum-q c).In-Number) in
-    call-refused a.shape a.tracer (emission a.i a.j a.q) a.field.now 9 (emission-above a.shape a.tracer a.i a.j a.q a.field.now _ (read (goal.at.returns-then-sum-q c).In-Number) (grid (goal.at.returns-then-sum-q c).Else-not-on_grid) (omega (arith, c.if-sum-q.true, h.small)))
+    let h = found a.shape a.tracer a.field.now _ (read (goal.at.returns-then-sum-q c).In_ok-sum) in
+    call-refused a.shape a.tracer (emission a.i a.j a.q) a.field.now 9 (emission-above a.shape a.tracer a.i a.j a.q a.field.now _ (read (goal.at.returns-then-sum-q c).In_ok-sum) (grid (goal.at.returns-then-sum-q c).Else-not-on_grid) (omega (arith, c.if-sum-q.true, h.small)))
 
 pub element_start-start-requires : goal.element_start-start-requires
 element_start-start-requires c = within (goal.at.element_start-start-requires c).Else-not-on_grid
@@ -72,21 +73,24 @@ pub emit-requires : goal.emit-requires
 emit-requires c =
     let r = c.element_start-start.result in
     let a = c.args in
-    let h = found a.shape a.tracer a.field.now _ (read (goal.at.emit-requires c).In-Number) in
+    let h = found a.shape a.tracer a.field.now _ (read (goal.at.emit-requires c).In_ok-sum) in
     let w = within (goal.at.emit-requires c).Else-not-on_grid in
     record { part_len = part-size 10 r (r + 10 - r) a.field.now (add-sub_cancel_left r 10) (ends (goal.at.emit-requires c).After-element_start-start).0; q_bound = omega (arith, lent-mass (goal.at.emit-requires c).After-emit-arg-1, mass-le-total quadratic a.shape (part quadratic a.shape a.tracer a.field.now) (element a.shape a.i a.j) (element-lt a.shape a.i a.j w.column w.row), h.sum, h.small, c.if-sum-q.false) }
 
-pub returns-in-Refused : goal.returns-in-Refused
-returns-in-Refused c = let a = c.args in call-refused a.shape a.tracer (emission a.i a.j a.q) a.field.now _ (emission-refused a.shape a.tracer a.i a.j a.q a.field.now _ (sym c.total-found.ensures ∙ ap answered c.in-Refused.is))
+pub returns-in_err-sum : goal.returns-in_err-sum
+returns-in_err-sum c =
+    let a = c.args in
+    let e = call-refused a.shape a.tracer (emission a.i a.j a.q) a.field.now _ (emission-refused a.shape a.tracer a.i a.j a.q a.field.now _ (sym c.in_err-sum.ensures)) in
+    (passed_on c.from_residual.result _ c.from_residual.ensures.1 ∙ e.0, e.1)
 
-pub returns-else-sum-q : goal.returns-else-sum-q
+pub returns : goal.returns
 unfolding done
-returns-else-sum-q c =
+returns c =
     let a = c.args in
     let st = element_start a.shape a.tracer a.i a.j in
-    let h = found a.shape a.tracer a.field.now _ (read (goal.at.returns-else-sum-q c).In-Number) in
-    let w = within (goal.at.returns-else-sum-q c).Else-not-on_grid in
-    let e = call-accepted a.shape a.tracer (emission a.i a.j a.q) a.field.now _ (emission-accepted a.shape a.tracer a.i a.j a.q a.field.now _ (read (goal.at.returns-else-sum-q c).In-Number) (grid (goal.at.returns-else-sum-q c).Else-not-on_grid) (omega (arith, c.if-sum-q.false, h.small))) in
+    let h = found a.shape a.tracer a.field.now _ (read (goal.at.returns c).In_ok-sum) in
+    let w = within (goal.at.returns c).Else-not-on_grid in
+    let e = call-accepted a.shape a.tracer (emission a.i a.j a.q) a.field.now _ (emission-accepted a.shape a.tracer a.i a.j a.q a.field.now _ (read (goal.at.returns c).In_ok-sum) (grid (goal.at.returns c).Else-not-on_grid) (omega (arith, c.if-sum-q.false, h.small))) in
     let k = st + 10 - st in
     let ten-is = add-sub_cancel_left st 10 in
     let x : c.emit.new.part ≡ emitted quadratic (element a.shape a.i a.j) a.q (part quadratic a.shape a.tracer a.field.now) =

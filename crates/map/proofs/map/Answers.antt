@@ -5,6 +5,7 @@ use Prim.Native.Nat.{◌≤◌}
 use native.Mathlib.Nat.{zero-add}
 use native.Mathlib.Omega.{arith}
 use lib.ListN.{length}
+use Rattle.rules.proofs.AnswerLaws.{passed_on}
 use Rattle.rules.specs.Answers.{accepted, answered}
 use Rattle.rules.specs.Field.{quadratic, admitted}
 use Rattle.rules.specs.Calls.{total_reading}
@@ -35,14 +36,15 @@ returns-then-page-page_length c =
 room : (c : Else-page-page_length) → page_length c.args.shape ≤ length c.args.page.now
 room c = rw c.page_length.ensures at c.if-page-page_length.false
 
-pub returns-in-Refused : goal.returns-in-Refused
-returns-in-Refused c =
+pub returns-in_err-sum : goal.returns-in_err-sum
+returns-in_err-sum c =
     let a = c.args in
-    page-kept a.shape a.tracer a.field.now a.page.now _ (map-refused a.shape a.tracer a.field.now a.page.now (room (goal.at.returns-in-Refused c).Else-page-page_length) _ (sym c.total-found.ensures ∙ ap answered c.in-Refused.is))
+    let e = page-kept a.shape a.tracer a.field.now a.page.now _ (map-refused a.shape a.tracer a.field.now a.page.now (room (goal.at.returns-in_err-sum c).Else-page-page_length) _ (sym c.in_err-sum.ensures)) in
+    (passed_on c.from_residual.result _ c.from_residual.ensures.1 ∙ e.0, e.1)
 
 -- what an accepted reading of the total says
-read : (c : After-page-arg-1) → let a = c.args in total_reading quadratic a.shape a.tracer a.field.now ≡ accepted c.in-Number.sum
-read c = sym c.total-found.ensures ∙ ap answered c.in-Number.is
+read : (c : After-page-arg-1) → let a = c.args in total_reading quadratic a.shape a.tracer a.field.now ≡ accepted c.in_ok-sum.sum
+read c = sym c.in_ok-sum.ensures
 
 pub page-end-requires : goal.page-end-requires
 page-end-requires c =
@@ -50,9 +52,9 @@ page-end-requires c =
     let h = found a.shape a.tracer a.field.now _ (read (goal.at.page-end-requires c).After-page-arg-1) in
     record { printable = record { admits = h.shape; tracer = h.tracer; room = h.room; small = omega (arith, h.sum, h.small) }; sum_value = h.sum; shape_in_bounds = room (goal.at.page-end-requires c).Else-page-page_length }
 
-pub returns-in-Number : goal.returns-in-Number
-returns-in-Number c =
+pub returns : goal.returns
+returns c =
     let a = c.args in
     let w = c.page-end.ensures in
-    let answer = map_found a.shape a.tracer a.field.now a.page.now (room (goal.at.returns-in-Number c).Else-page-page_length) _ (read (goal.at.returns-in-Number c).After-page-arg-1) in
+    let answer = map_found a.shape a.tracer a.field.now a.page.now (room (goal.at.returns c).Else-page-page_length) _ (read (goal.at.returns c).After-page-arg-1) in
     (ap accepted (w.ends ∙ zero-add _) ∙ sym answer, w.same ∙ page-written a.shape a.tracer a.field.now a.page.now _ answer)

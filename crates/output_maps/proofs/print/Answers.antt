@@ -13,17 +13,17 @@ use Rattle.output_maps.proofs.print.Goals as goal
 
 pub pages-requires : goal.pages-requires
 pages-requires c =
-    let g = c.in-Found.shape in
-    let e = sym c.read-answer.ensures.0 ∙ ap answered c.in-Found.is in
+    let g = c.in-Ok.shape in
+    let e = sym c.read.ensures.0 ∙ ap answered c.in-Ok.is in
     let s = read-shown quadratic g c.args.file.now _ _ (file-read c.args.file.now _ _ g e) in
-    record { sound_field = subst (SoundField g) (sym (c.read-answer.ensures.1.0 ∙ field-taken c.args.file.now _ _ g e)) (read-sound g c.args.file.now _ _ s); shape_in_bounds = omega (arith, pages-fit g s.ranges s.wind-room, c.requires) }
+    record { sound_field = subst (SoundField g) (sym (c.read.ensures.1.0 ∙ field-taken c.args.file.now _ _ g e)) (read-sound g c.args.file.now _ _ s); shape_in_bounds = omega (arith, pages-fit g s.ranges s.wind-room, c.requires) }
 
-pub returns-in-Refused : goal.returns-in-Refused
+pub returns-in-Err : goal.returns-in-Err
 unfolding map_output printed_for field_lent element_length quadratic
-returns-in-Refused c =
-    let it = text-given (same_bytes (refused-printed c.args.file.now field_lent wind_lent pages _ (sym c.read-answer.ensures.0 ∙ ap answered c.in-Refused.is)) c.refusal.ensures) in record { value = it.0; prefix_len = it.1.0; out_after = it.1.1 }
+returns-in-Err c =
+    let it = text-given (same_bytes (refused-printed c.args.file.now field_lent wind_lent pages _ (sym c.read.ensures.0 ∙ ap answered c.in-Err.is)) c.refusal.ensures) in record { value = it.0; prefix_len = it.1.0; out_after = it.1.1 }
 
-pub returns-in-Found : goal.returns-in-Found
+pub returns-in-Ok : goal.returns-in-Ok
 unfolding map_output printed_for field_lent element_length quadratic text_of pages
-returns-in-Found c =
-    let it = text-given (same_bytes (text-printed c.args.file.now field_lent wind_lent pages c.in-Found.shape _ _ (sym c.read-answer.ensures.0 ∙ ap answered c.in-Found.is) c.read-answer.ensures.1.0 c.read-answer.ensures.1.1) c.pages.ensures) in record { value = it.0; prefix_len = it.1.0; out_after = it.1.1 }
+returns-in-Ok c =
+    let it = text-given (same_bytes (text-printed c.args.file.now field_lent wind_lent pages c.in-Ok.shape _ _ (sym c.read.ensures.0 ∙ ap answered c.in-Ok.is) c.read.ensures.1.0 c.read.ensures.1.1) c.pages.ensures) in record { value = it.0; prefix_len = it.1.0; out_after = it.1.1 }

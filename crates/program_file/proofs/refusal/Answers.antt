@@ -4,4 +4,4 @@ use Rattle.text.proofs.AddedLaws.{same_bytes}
 use Rattle.program_file.proofs.refusal.Goals as goal
 
 pub returns : goal.returns
-returns c = same_bytes (ap refused_line c.refusal_number.ensures) c.refused_line.ensures
+returns c = same_bytes (ap refused_line c.into.ensures) c.refused_line.ensures

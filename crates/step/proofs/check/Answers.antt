@@ -4,6 +4,7 @@ use mathlib.Core.Bool.{true}
 use lib.Dec.{T, leb→le, leb}
 use lib.ListN.{length}
 use Rattle.whole.proofs.Cases.{both_yes}
+use Rattle.rules.proofs.AnswerLaws.{passed_on}
 use Rattle.rules.specs.Answers.{plain, answered}
 use Rattle.rules.specs.Field.{quadratic, admitted, faces, field_length, Admitted}
 use Rattle.rules.specs.Calls.{wind_sound}
@@ -53,14 +54,14 @@ returns-then-not-winds_sound c =
 sound-is : (c : Else-not-winds_sound) → wind_sound c.args.shape c.args.wind.now ≡ true
 sound-is c = sym c.winds_sound.ensures ∙ c.if-not-winds_sound.false
 
-pub returns-in-Refused : goal.returns-in-Refused
+pub returns-in_err-total : goal.returns-in_err-total
 unfolding plain
-returns-in-Refused c =
+returns-in_err-total c =
     let a = c.args in
-    sym (ap plain (step-refused a.shape a.tracer a.field.now a.wind.now a.report a.work _ (shape_is (goal.at.returns-in-Refused c).Else-not-admitted) (enough-is (goal.at.returns-in-Refused c).Else-not-lent_enough) (sound-is (goal.at.returns-in-Refused c).Else-not-winds_sound) (sym c.total-found.ensures ∙ ap answered c.in-Refused.is)))
+    passed_on c.from_residual.result _ c.from_residual.ensures.1 ∙ sym (ap plain (step-refused a.shape a.tracer a.field.now a.wind.now a.report a.work _ (shape_is (goal.at.returns-in_err-total c).Else-not-admitted) (enough-is (goal.at.returns-in_err-total c).Else-not-lent_enough) (sound-is (goal.at.returns-in_err-total c).Else-not-winds_sound) (sym c.in_err-total.ensures)))
 
-pub returns-in-Number : goal.returns-in-Number
+pub returns : goal.returns
 unfolding plain
-returns-in-Number c =
+returns c =
     let a = c.args in
-    sym (ap plain (step-accepted a.shape a.tracer a.field.now a.wind.now a.report a.work _ (shape_is (goal.at.returns-in-Number c).Else-not-admitted) (enough-is (goal.at.returns-in-Number c).Else-not-lent_enough) (sound-is (goal.at.returns-in-Number c).Else-not-winds_sound) (sym c.total-found.ensures ∙ ap answered c.in-Number.is)))
+    sym (ap plain (step-accepted a.shape a.tracer a.field.now a.wind.now a.report a.work _ (shape_is (goal.at.returns c).Else-not-admitted) (enough-is (goal.at.returns c).Else-not-lent_enough) (sound-is (goal.at.returns c).Else-not-winds_sound) (sym c.in_ok-total.ensures)))

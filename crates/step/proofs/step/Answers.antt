@@ -8,6 +8,7 @@ use native.Mathlib.Omega.{arith}
 use native.Mathlib.Nat.{add-sub_cancel_left}
 use lib.ListN.{length, take, drop}
 use lib.Seq.{length-take-le}
+use Rattle.rules.proofs.AnswerLaws.{passed_on}
 use Rattle.rules.specs.Answers.{answered}
 use Rattle.rules.specs.Field.{quadratic, part, total}
 use Rattle.rules.specs.Step.{tracer_step}
@@ -20,17 +21,17 @@ use Rattle.field.proofs.CheckLaws.{call-refused, call-accepted}
 use Rattle.field_layout.proofs.PlaceLaws.{field_is, field-le, tracer-room}
 use Rattle.step.proofs.CheckLaws.{Stepping, stepping, plain-refused, report-refused, report-accepted, work-refused, work-accepted, part-back}
 use Rattle.step.proofs.step.Goals as goal
-use Rattle.step.proofs.step.Goals.{After-elements_length, After-work-1, After-work_needed-needed, In-Accepted}
+use Rattle.step.proofs.step.Goals.{After-elements_length, After-work-1, After-work_needed-needed, In_ok-check}
 
 -- what the checks have shown
-facts : (c : In-Accepted) → Stepping c.args.shape c.args.tracer c.args.field.now c.args.wind.now (length c.args.report.now) (length c.args.work.now)
-facts c = stepping c.args.shape c.args.tracer c.args.field.now c.args.wind.now (length c.args.report.now) (length c.args.work.now) (sym c.check-checked.ensures ∙ ap answered c.in-Accepted.is)
+facts : (c : In_ok-check) → Stepping c.args.shape c.args.tracer c.args.field.now c.args.wind.now (length c.args.report.now) (length c.args.work.now)
+facts c = stepping c.args.shape c.args.tracer c.args.field.now c.args.wind.now (length c.args.report.now) (length c.args.work.now) (sym c.in_ok-check.ensures)
 
 pub tracer_start-start-requires : goal.tracer_start-start-requires
-tracer_start-start-requires c = let h = facts (goal.at.tracer_start-start-requires c).In-Accepted in record { admitted = h.shape; tracer_lt_tracers = h.tracer }
+tracer_start-start-requires c = let h = facts (goal.at.tracer_start-start-requires c).In_ok-check in record { admitted = h.shape; tracer_lt_tracers = h.tracer }
 
 pub elements_length-requires : goal.elements_length-requires
-elements_length-requires c = (facts (goal.at.elements_length-requires c).In-Accepted).shape
+elements_length-requires c = (facts (goal.at.elements_length-requires c).In_ok-check).shape
 
 -- the tracer's part ends within the field, and what is lent is that part
 ends : (c : After-elements_length) → (c.tracer_start-start.result + c.elements_length.result ≤ length c.args.field.now) × (c.tracer_start-start.result + c.elements_length.result ≤ 327680)
@@ -48,7 +49,7 @@ pub overflow_add-end : goal.overflow_add-end
 overflow_add-end c = record { fits = omega (arith, ends (goal.at.overflow_add-end c).After-elements_length) }
 
 pub work_needed-needed-requires : goal.work_needed-needed-requires
-work_needed-needed-requires c = (facts (goal.at.work_needed-needed-requires c).In-Accepted).shape
+work_needed-needed-requires c = (facts (goal.at.work_needed-needed-requires c).In_ok-check).shape
 
 pub offset_bounds-field-start : goal.offset_bounds-field-start
 offset_bounds-field-start c = omega (arith, ends (goal.at.offset_bounds-field-start c).After-elements_length)
@@ -63,36 +64,36 @@ works-there c = omega (arith, c.work_needed-needed.ensures, (facts c.before.befo
 lent-long : (c : After-work_needed-needed) → length (take c.work_needed-needed.result c.args.work.now) ≡ c.work_needed-needed.result
 lent-long c = length-take-le c.work_needed-needed.result c.args.work.now (works-there c)
 
-pub slice_bounds-step-end-in-Accepted : goal.slice_bounds-step-end-in-Accepted
-slice_bounds-step-end-in-Accepted c = works-there (goal.at.slice_bounds-step-end-in-Accepted c).After-work_needed-needed
+pub slice_bounds-step-end-2 : goal.slice_bounds-step-end-2
+slice_bounds-step-end-2 c = works-there (goal.at.slice_bounds-step-end-2 c).After-work_needed-needed
 
-pub slice_bounds-step-end-in-Accepted-2 : goal.slice_bounds-step-end-in-Accepted-2
-slice_bounds-step-end-in-Accepted-2 c = sym (lent-long (goal.at.slice_bounds-step-end-in-Accepted-2 c).After-work_needed-needed)
+pub slice_bounds-step-end-3 : goal.slice_bounds-step-end-3
+slice_bounds-step-end-3 c = sym (lent-long (goal.at.slice_bounds-step-end-3 c).After-work_needed-needed)
 
 pub step-requires : goal.step-requires
 step-requires c =
     let a = c.args in
-    let h = facts (goal.at.step-requires c).In-Accepted in
+    let h = facts (goal.at.step-requires c).In_ok-check in
     record { admitted = h.shape; part_len = ap length (lent_is (goal.at.step-requires c).After-elements_length) ∙ length-part quadratic a.shape a.tracer a.field.now h.tracer h.room ∙ part-is-elements quadratic a.shape; part_bound = omega (arith, ap (total quadratic a.shape) (lent_is (goal.at.step-requires c).After-elements_length), h.within-limit); winds_in_range = h.wind-range; shape_in_bounds = h.reports; shape_in_bounds_2 = omega (arith, lent-long (goal.at.step-requires c).After-work_needed-needed, c.work_needed-needed.ensures) }
 
-pub returns-in-Refused : goal.returns-in-Refused
-returns-in-Refused c =
+pub returns-in_err-check : goal.returns-in_err-check
+returns-in_err-check c =
     let a = c.args in
     let l = lent a.wind.now a.report.now a.work.now in
-    let e = plain-refused (call quadratic a.shape a.tracer (step l) a.field.now).reply _ (sym c.check-checked.ensures ∙ ap answered c.in-Refused.is) in
+    let e = plain-refused (call quadratic a.shape a.tracer (step l) a.field.now).reply _ (sym c.in_err-check.ensures) in
     let q = call-refused a.shape a.tracer (step l) a.field.now _ e in
-    (q.0, (q.1, (report-refused _ _ a.report.now e, work-refused a.shape _ _ a.work.now e)))
+    (passed_on c.from_residual.result _ c.from_residual.ensures.1 ∙ q.0, (q.1, (report-refused _ _ a.report.now e, work-refused a.shape _ _ a.work.now e)))
 
 pub shape_of-work : goal.shape_of-work
 shape_of-work c = search rules
 
-pub returns-in-Accepted : goal.returns-in-Accepted
+pub returns : goal.returns
 unfolding done tracer_step
-returns-in-Accepted c =
+returns c =
     let a = c.args in
     let s = c.tracer_start-start in
     let n = c.elements_length.result in
-    let h = facts (goal.at.returns-in-Accepted c).In-Accepted in
+    let h = facts (goal.at.returns c).In_ok-check in
     let l = lent a.wind.now a.report.now a.work.now in
     let w = wind_at a.wind.now in
     let p = part quadratic a.shape a.tracer a.field.now in
@@ -103,7 +104,7 @@ returns-in-Accepted c =
       q.0,
       (
         part-back a.shape a.tracer s.result (s.result + n - s.result) _ (tracer_step quadratic a.shape w p).part a.field.now s.ensures (add-sub_cancel_left s.result n ∙ c.elements_length.ensures)
-            (c.step.ensures.part_after ∙ ap (λ x. (tracer_step quadratic a.shape w x).part) (lent_is (goal.at.returns-in-Accepted c).After-elements_length)) (length-after quadratic a.shape h.shape.nx-above h.shape.ny-above w p (stages quadratic a.shape w p)) ∙ q.1,
-        (c.step.ensures.report_after ∙ ap (λ x. overwrite 0 (tracer_step quadratic a.shape w x).report a.report.now) (lent_is (goal.at.returns-in-Accepted c).After-elements_length) ∙ report-accepted _ _ a.report.now e, work-accepted a.shape _ _ a.work.now x _ e (ap (λ k. x ++ drop k a.work.now) c.work_needed-needed.ensures) (back ∙ lent-long (goal.at.returns-in-Accepted c).After-work_needed-needed ∙ c.work_needed-needed.ensures) (search rules)),
+            (c.step.ensures.part_after ∙ ap (λ x. (tracer_step quadratic a.shape w x).part) (lent_is (goal.at.returns c).After-elements_length)) (length-after quadratic a.shape h.shape.nx-above h.shape.ny-above w p (stages quadratic a.shape w p)) ∙ q.1,
+        (c.step.ensures.report_after ∙ ap (λ x. overwrite 0 (tracer_step quadratic a.shape w x).report a.report.now) (lent_is (goal.at.returns c).After-elements_length) ∙ report-accepted _ _ a.report.now e, work-accepted a.shape _ _ a.work.now x _ e (ap (λ k. x ++ drop k a.work.now) c.work_needed-needed.ensures) (back ∙ lent-long (goal.at.returns c).After-work_needed-needed ∙ c.work_needed-needed.ensures) (search rules)),
       ),
     )

@@ -29,11 +29,11 @@ pub returns-then-not-admitted : goal.returns-then-not-admitted
 unfolding tail_shape
 returns-then-not-admitted c =
     tail-bad-shape c.args.file.now c.if-n-lt12.false (marked (goal.at.returns-then-not-admitted c).Else-not-is_mark) c.if-file-n-ne0.false
-    (rw (c.wide.ensures, c.wide-2.ensures, c.wide-3.ensures) at (sym c.admitted.ensures ∙ c.if-not-admitted.true))
+    (rw (c.from.ensures, c.from-2.ensures, c.from-3.ensures) at (sym c.admitted.ensures ∙ c.if-not-admitted.true))
 
 pub returns : goal.returns
 unfolding tail_shape
 returns c =
-    rw (c.wide.ensures, c.wide-2.ensures, c.wide-3.ensures)
+    rw (c.from.ensures, c.from-2.ensures, c.from-3.ensures)
     (tail-found c.args.file.now c.if-n-lt12.false (marked (goal.at.returns c).Else-not-is_mark) c.if-file-n-ne0.false
-    (rw (c.wide.ensures, c.wide-2.ensures, c.wide-3.ensures) at (sym c.admitted.ensures ∙ c.if-not-admitted.false)))
+    (rw (c.from.ensures, c.from-2.ensures, c.from-3.ensures) at (sym c.admitted.ensures ∙ c.if-not-admitted.false)))

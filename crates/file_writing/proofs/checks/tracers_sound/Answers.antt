@@ -1,4 +1,4 @@
-use mathlib.Core.Path.{◌≡◌, refl, sym}
+use mathlib.Core.Path.{◌≡◌, refl, sym, ◌∙◌}
 use native.Mathlib.Nat.{zero-mul, suc-mul}
 use native.Mathlib.Numerals.{add-one}
 use native.Mathlib.Omega.{arith}
@@ -34,20 +34,20 @@ offset_bounds-field-start c = omega (arith, within (goal.at.offset_bounds-field-
 pub slice_bounds-tracer_total-end : goal.slice_bounds-tracer_total-end
 slice_bounds-tracer_total-end c = omega (arith, within (goal.at.slice_bounds-tracer_total-end c).In-loop-s, c.requires.shape_in_bounds)
 
-pub tracer_total-found-requires : goal.tracer_total-found-requires
-tracer_total-found-requires c =
+pub tracer_total-requires : goal.tracer_total-requires
+tracer_total-requires c =
     let l = c.loop-s in
     record { admitted = c.requires.admitted; part_len = lent_length c.args.shape c.args.field.now c.requires.shape_in_bounds l.s l.start c.part_length-length.result c.loop-s-test.true l.invariant.1 c.part_length-length.ensures }
 
-pub returns-in_default : goal.returns-in_default
+pub returns-then-is_err : goal.returns-then-is_err
 unfolding field_sound
-returns-in_default c =
+returns-then-is_err c =
     let l = c.loop-s in
     let w = c.part_length-length in
     let g = c.args.shape in
     let f = c.args.field.now in
     sym (all-fails g.tracers (λ k. sound quadratic g (part quadratic g k f)) l.s c.loop-s-test.true
-    (found-unsound g f c.requires.shape_in_bounds l.s l.start w.result c.loop-s-test.true l.invariant.1 w.ensures c.tracer_total-found.result c.tracer_total-found.ensures _ c.in_default.is))
+    (found-unsound g f c.requires.shape_in_bounds l.s l.start w.result c.loop-s-test.true l.invariant.1 w.ensures c.tracer_total.result c.tracer_total.ensures (sym c.is_err.ensures.value ∙ c.if-is_err.true)))
 
 pub loop-s-preserved : goal.loop-s-preserved
 loop-s-preserved c =
@@ -59,7 +59,7 @@ loop-s-preserved c =
       omega arith,
       omega (arith, l.invariant.1, next),
       all_more l.s (λ k. sound quadratic g (part quadratic g k f)) l.invariant.2
-          (found-sound g f c.requires.shape_in_bounds l.s l.start w.result c.loop-s-test.true l.invariant.1 w.ensures c.tracer_total-found.result c.tracer_total-found.ensures _ c.in-Number.is),
+          (found-sound g f c.requires.shape_in_bounds l.s l.start w.result c.loop-s-test.true l.invariant.1 w.ensures c.tracer_total.result c.tracer_total.ensures (sym c.is_err.ensures.value ∙ c.if-is_err.false)),
     )
 
 pub returns : goal.returns

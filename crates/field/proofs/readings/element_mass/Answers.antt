@@ -8,8 +8,8 @@ use Rattle.field_layout.specs.Places.{element_start}
 use Rattle.field_layout.proofs.PlaceLaws.{element-ends}
 use Rattle.whole.proofs.OverwriteLaws.{part-size}
 use Rattle.field.proofs.InPlaceLaws.{mass-lent}
-use Rattle.field.proofs.element_mass.Goals as goal
-use Rattle.field.proofs.element_mass.Goals.{After-element_start-at}
+use Rattle.field.proofs.readings.element_mass.Goals as goal
+use Rattle.field.proofs.readings.element_mass.Goals.{After-element_start-at}
 
 -- the element ends within the field
 ends : (c : After-element_start-at) → (c.element_start-at.result + 10 ≤ length c.args.field.now) × (c.element_start-at.result + 10 ≤ 327680)

@@ -11,8 +11,8 @@ use Rattle.field_layout.proofs.PlaceLaws.{field_is, field-le, tracer-room}
 use Rattle.rules.proofs.PartLaws.{length-part}
 use Rattle.rules.proofs.ShapeLaws.{ranges}
 use Rattle.field.proofs.CheckLaws.{total-bad-shape, total-short, total-no-tracer, total-searched}
-use Rattle.field.proofs.total.Goals as goal
-use Rattle.field.proofs.total.Goals.{After-part_length, Else-field-field_length, Else-not-admitted}
+use Rattle.field.proofs.readings.total.Goals as goal
+use Rattle.field.proofs.readings.total.Goals.{After-part_length, Else-field-field_length, Else-not-admitted}
 
 pub returns-then-not-admitted : goal.returns-then-not-admitted
 returns-then-not-admitted c = let a = c.args in sym (total-bad-shape a.shape a.tracer a.field.now (sym c.admitted.ensures ∙ c.if-not-admitted.true))

@@ -1,0 +1,43 @@
+-- The lines: what the reading of the file refuses is passed on, and else it is what the tracers' lines are.
+use mathlib.Core.Path.{◌≡◌, sym, ap, ◌∙◌}
+use Prim.Native.Nat.{◌≤◌}
+use native.Mathlib.Omega.{arith}
+use Rattle.rules.specs.Answers.{accepted}
+use Rattle.rules.specs.Field.{quadratic, faces}
+use Rattle.rules.specs.Program.{file_reply, steps}
+use Rattle.rules.proofs.ShapeLaws.{ranges}
+use Rattle.file_layout.proofs.ReplyLaws.{read-shown}
+use Rattle.program_file.proofs.PrintedLaws.{file-read, refused-printed, text-printed}
+use Rattle.output.proofs.TextLaws.{text-fits, lines_of, passed-line}
+use Rattle.output.proofs.lines.Goals as goal
+use Rattle.output.proofs.lines.Goals.{In_ok-shape}
+
+pub returns-in_err-shape : goal.returns-in_err-shape
+returns-in_err-shape c =
+    passed-line _ c.from_residual.result _ c.from_residual.ensures.1 (refused-printed c.args.file.now c.args.field.now c.args.wind.now steps _ (sym c.in_err-shape.ensures.0))
+
+-- the file was read, and its shape has no more than the lent winds
+found : (c : In_ok-shape) → let a = c.args in file_reply a.file.now a.field.now a.wind.now ≡ accepted c.in_ok-shape.shape
+found c = sym c.in_ok-shape.ensures.0
+
+few : (c : In_ok-shape) → faces c.in_ok-shape.shape ≤ 256
+few c =
+    let a = c.args in
+    let g = c.in_ok-shape.shape in
+    omega (arith, (read-shown quadratic g a.file.now a.field.now a.wind.now (file-read a.file.now a.field.now a.wind.now g (found c))).wind-room, c.requires.wind_len)
+
+pub tracers-requires : goal.tracers-requires
+tracers-requires c =
+    let a = c.args in
+    let g = c.in_ok-shape.shape in
+    let o = (goal.at.tracers-requires c).In_ok-shape in
+    let s = read-shown quadratic g a.file.now a.field.now a.wind.now (file-read a.file.now a.field.now a.wind.now g (found o)) in
+    record { admitted = ranges g s.ranges; report_len = c.requires.report_len; work_len = c.requires.work_len; shape_bound = few o; shape_in_bounds = omega (arith, text-fits g s.ranges (few o), c.requires.out_len) }
+
+pub returns : goal.returns
+returns c =
+    let a = c.args in
+    let g = c.in_ok-shape.shape in
+    let o = (goal.at.returns c).In_ok-shape in
+    let s = read-shown quadratic g a.file.now a.field.now a.wind.now (file-read a.file.now a.field.now a.wind.now g (found o)) in
+    lines_of g _ _ _ _ _ (text-fits g s.ranges (few o)) c.requires.out_len (text-printed a.file.now a.field.now a.wind.now steps g _ _ (found o) c.read.ensures.1.0 c.read.ensures.1.1) c.tracers.result c.tracers.ensures
