@@ -50,16 +50,16 @@ module _ (g : Shape) where
   start-le s z h = omega (arith, tracer-room s h, field_is, field-le z)
 
   -- an element is one of the grid's
-  pub index-small : {s i j : ℕ} → Inside g s i j → (element g i j < elements g) × (elements g ≤ most_elements)
-  index-small {s} {i} {j} h = (element-lt g i j h.column h.row, elements-le g h.admits)
+  pub index-small : {s i j : ℕ} → Admitted g → Inside g s i j → (element g i j < elements g) × (elements g ≤ most_elements)
+  index-small {s} {i} {j} z h = (element-lt g i j h.column h.row, elements-le g z)
 
   -- and an element's numbers within its tracer's part
   pub element-room : (s i j : ℕ) → Inside g s i j → element_start g s i j + 10 ≤ field_length quadratic g
   unfolding element_start
   element-room s i j h = omega (arith, tracer-room s h.tracer, part-is, ap (λ n. element g i j * n) ten, element-lt g i j h.column h.row)
 
-  pub element-ends : (s i j : ℕ) → Inside g s i j → (n : ℕ) → field_length quadratic g ≤ n → (at : ℕ) → at ≡ element_start g s i j → (at + 10 ≤ n) × (at + 10 ≤ most_field)
-  element-ends s i j h n room at e = (omega (arith, element-room s i j h, room, e), omega (arith, element-room s i j h, field_is, field-le h.admits, e))
+  pub element-ends : (s i j : ℕ) → Admitted g → Inside g s i j → (n : ℕ) → field_length quadratic g ≤ n → (at : ℕ) → at ≡ element_start g s i j → (at + 10 ≤ n) × (at + 10 ≤ most_field)
+  element-ends s i j z h n room at e = (omega (arith, element-room s i j h, room, e), omega (arith, element-room s i j h, field_is, field-le z, e))
 
   pub start_is : (s i j : ℕ) → element_start g s i j ≡ s * part_length quadratic g + element g i j * 10
   unfolding element_start

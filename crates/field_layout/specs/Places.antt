@@ -1,12 +1,11 @@
 -- An element of a tracer that is there, and where its numbers stand.
 use Rattle.std.specs.Prelude.{ℕ, ◌+◌, ◌*◌, ◌<◌}
 use Rattle.rules.specs.declared.Shape.{Shape}
-use Rattle.rules.specs.Field.{quadratic, element, element_length, part_length, Admitted}
+use Rattle.rules.specs.Field.{quadratic, element, element_length, part_length}
 use Rattle.rules.specs.Sizes.{most_elements}
 
 -- element (i, j) of a tracer that is there
 pub record Inside (g : Shape) (s i j : ℕ) : Type 0 where
-  pub admits : Admitted g
   pub tracer : s < g.tracers
   pub column : i < g.nx
   pub row : j < g.ny

@@ -1,7 +1,7 @@
 use mathlib.Core.Path.{sym, ◌∙◌}
 use Rattle.rules.specs.Field.{quadratic}
 use Rattle.rules.proofs.PartLaws.{part-is-elements}
-use Rattle.field_layout.proofs.part_length.Goals as goal
+use Rattle.field_layout.proofs.grid.Grid.part_length.Goals as goal
 
 pub returns : goal.returns
-returns c = c.elements_length.ensures ∙ sym (part-is-elements quadratic c.args.shape)
+returns c = c.elements_length.ensures ∙ sym (part-is-elements quadratic c.args.self.shape)

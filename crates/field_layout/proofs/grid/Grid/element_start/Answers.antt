@@ -1,0 +1,29 @@
+use mathlib.Core.Path.{sym, ap, ◌∙◌}
+use native.Mathlib.Omega.{arith}
+use Prim.Native.Nat.{◌+◌, ◌*◌}
+use Rattle.rules.specs.Field.{element}
+use Rattle.field_layout.proofs.PlaceLaws.{index-small, element-room, start_is, field-le, field_is}
+use Rattle.field_layout.proofs.grid.Grid.element_start.Goals as goal
+
+pub overflow_add-result-2 : goal.overflow_add-result-2
+overflow_add-result-2 c =
+    let a = c.args in
+    let h = c.requires in
+    record { fits = omega (arith, c.tracer_start.ensures, element-room a.self.shape a.tracer a.i a.j h, start_is a.self.shape a.tracer a.i a.j, field_is a.self.shape, field-le a.self.shape a.self.admitted) }
+
+pub returns : goal.returns
+returns c =
+    let a = c.args in
+    ap (λ n. n + element a.self.shape a.i a.j * 10) c.tracer_start.ensures ∙ sym (start_is a.self.shape a.tracer a.i a.j)
+
+pub tracer_start-requires : goal.tracer_start-requires
+tracer_start-requires c = c.requires.tracer
+
+pub overflow_mul-result : goal.overflow_mul-result
+overflow_mul-result c = record { fits = omega (arith, index-small _ c.args.self.admitted c.requires) }
+
+pub overflow_add-result : goal.overflow_add-result
+overflow_add-result c = record { fits = omega (arith, index-small _ c.args.self.admitted c.requires) }
+
+pub overflow_mul-result-2 : goal.overflow_mul-result-2
+overflow_mul-result-2 c = record { fits = omega (arith, index-small _ c.args.self.admitted c.requires) }

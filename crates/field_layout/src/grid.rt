@@ -1,0 +1,105 @@
+// An admitted shape, and where its numbers stand in the buffers. The methods are leaves.
+ghost use Rattle.std.specs.Prelude.{◌≡◌, ◌*◌, ◌<◌};
+ghost use Rattle.rules.specs.Field.{quadratic, elements, faces, on_grid, elements_length, part_length, field_length, Admitted};
+ghost use Rattle.rules.specs.Grid.{face_index};
+ghost use Rattle.field_layout.specs.Places.{Inside, element_start};
+
+use rules::element::NUMBERS;
+use rules::{Face, Refusal, Shape, Way};
+
+// A shape within its ranges: whoever has a grid knows that its numbers fit.
+#[derive(Clone, Copy)]
+pub struct Grid {
+    pub shape: Shape,
+    ghost admitted: { Admitted shape },
+}
+
+// 2 where the shape is outside its ranges.
+impl TryFrom<Shape> for Grid {
+    ghost use Rattle.field_layout.specs.Grids.{IsGridOf};
+
+    type Error = Refusal;
+
+    ghost try_from_gives = { IsGridOf };
+
+    fn try_from(shape: Shape) -> Result<Grid, Refusal> {
+        if crate::admitted(shape) {
+            Ok(Grid { shape })
+        } else {
+            Err(Refusal::BadShape)
+        }
+    }
+}
+
+impl Grid {
+    // Whether there is an element (i, j).
+    pub fn has(self, i: usize, j: usize) -> bool
+        ensures { result ≡ on_grid self.shape i j }
+    {
+        i < self.shape.nx && j < self.shape.ny
+    }
+
+    // The elements of one tracer.
+    pub fn elements(self) -> usize
+        ensures { result ≡ elements self.shape }
+    {
+        self.shape.nx * self.shape.ny
+    }
+
+    // The faces: an east and a north one for each element.
+    pub fn faces(self) -> usize
+        ensures { result ≡ faces self.shape }
+    {
+        let n = self.elements();
+        n + n
+    }
+
+    // The numbers of a tracer's elements.
+    pub fn elements_length(self) -> usize
+        ensures { result ≡ elements_length quadratic self.shape }
+    {
+        self.elements() * NUMBERS
+    }
+
+    // The numbers of a tracer's part of the field: those of its elements.
+    pub fn part_length(self) -> usize
+        ensures { result ≡ part_length quadratic self.shape }
+    {
+        self.elements_length()
+    }
+
+    // The numbers of the field.
+    pub fn field_length(self) -> usize
+        ensures { result ≡ field_length quadratic self.shape }
+    {
+        self.shape.tracers * self.part_length()
+    }
+
+    // Where a tracer's part starts in the field.
+    pub fn tracer_start(self, tracer: usize) -> usize
+        requires { tracer < self.shape.tracers }
+        ensures { result ≡ tracer * part_length quadratic self.shape }
+    {
+        tracer * self.part_length()
+    }
+
+    // Where element (i, j) of a tracer starts in the field.
+    pub fn element_start(self, tracer: usize, i: usize, j: usize) -> usize
+        requires { Inside self.shape tracer i j }
+        ensures { result ≡ element_start self.shape tracer i j }
+    {
+        self.tracer_start(tracer) + (j * self.shape.nx + i) * NUMBERS
+    }
+
+    // Where a face's wind stands.
+    pub fn face_at(self, face: Face) -> usize
+        requires { Inside self.shape 0 face.i face.j }
+        ensures { result ≡ face_index self.shape face.way face.i face.j }
+    {
+        let e = face.j * self.shape.nx + face.i;
+        match face.way {
+            Way::East => e,
+            Way::North => self.elements() + e,
+        }
+    }
+}
