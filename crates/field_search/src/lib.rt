@@ -1,25 +1,24 @@
 // Searches of stored numbers: the winds, and a tracer's numbers, "by rows, elements and numbers ends at the first break".
 #![tactic(auto)]
 
-ghost use Rattle.std.specs.Prelude.{◌≡◌, ◌≤◌, length};
+ghost use Rattle.std.specs.Prelude.{◌≡◌, ◌≤◌, ◌<◌, ℕ, List, length, get_or};
 ghost use Rattle.rules.specs.Answers.{answered};
-ghost use Rattle.rules.specs.Field.{quadratic, faces, part_length, Admitted};
+ghost use Rattle.rules.specs.Field.{quadratic, faces, part_length};
 ghost use Rattle.rules.specs.Calls.{wind_sound};
 ghost use Rattle.field_search.specs.Search.{breaks, searched};
 
 use field_elements::element::number_weight;
+use field_layout::{Grid, wind_in_range};
 use rules::element::{NODES, NUMBERS};
 use rules::{Refusal, Shape};
 
 // A leaf: whether every stored wind is in its range.
-pub fn winds_sound(wind: &[i16], shape: Shape) -> bool
-    requires admitted { Admitted shape }
-    requires shape_in_bounds { faces shape ≤ length wind.now }
-    ensures { result ≡ wind_sound shape wind.now }
+pub fn winds_sound(wind: &[i16], grid: Grid) -> bool
+    requires { faces grid.shape ≤ length wind.now }
+    ensures { result ≡ wind_sound grid.shape wind.now }
 {
-    let n = field_layout::faces(shape);
-    for f in 0..n {
-        if !field_layout::wind_in_range(wind[f]) {
+    for c in &wind[..grid.faces()] {
+        if !wind_in_range(*c) {
             return false;
         }
     }
@@ -43,21 +42,44 @@ pub fn breaks(v: usize, x: u64, sum: u64) -> bool
     LIMIT < sum
 }
 
-// A leaf: the total of a tracer's part; refusal 6 where a remainder is above 35 or the total above the limit.
-pub fn tracer_total(part: &[u32], shape: Shape) -> Result<u64, Refusal>
-    requires admitted { Admitted shape }
-    requires part_len { length part.now ≡ part_length quadratic shape }
-    ensures { answered result ≡ searched shape part.now }
+// A tracer's numbers, wherever they are read from: a part of the field, or a section of a file.
+pub trait Numbers {
+    // The numbers, in field order.
+    ghost numbers: { Self → List ℕ };
+
+    fn number(&self, k: usize) -> u32
+        requires { k < length (numbers self.now) }
+        ensures { result ≡ get_or (numbers self.now) k 0 };
+}
+
+// A tracer's part of the field.
+#[derive(Clone, Copy)]
+pub struct Part<'a> {
+    pub numbers: &'a [u32],
+}
+
+impl Numbers for Part<'_> {
+    ghost numbers = { λ p. p.numbers.now };
+
+    fn number(&self, k: usize) -> u32 {
+        self.numbers[k]
+    }
+}
+
+// A leaf: the total of a tracer's numbers; refusal 6 where a remainder is above 35 or the total above the limit.
+pub fn search<N: Numbers>(numbers: &N, grid: Grid) -> Result<u64, Refusal>
+    requires { length (N.numbers numbers.now) ≡ part_length quadratic grid.shape }
+    ensures { answered result ≡ searched grid.shape (N.numbers numbers.now) }
 {
-    let nx = shape.nx;
-    let ny = shape.ny;
-    let mut sum: u64 = 0;
+    let Shape { nx, ny, .. } = grid.shape;
+    let mut sum = 0;
+    // A flag beside the sum: the loops are left by their labels, and a `for` that is left so has no value.
     let mut sound = true;
     let mut start = 0;
     'rows: for j in 0..ny {
         'elements: for i in 0..nx {
             'numbers: for v in 0..NUMBERS {
-                let x = part[start + v] as u64;
+                let x = u64::from(numbers.number(start + v));
                 sum += number_weight(v) * x;
                 if breaks(v, x, sum) {
                     sound = false;
@@ -72,4 +94,12 @@ pub fn tracer_total(part: &[u32], shape: Shape) -> Result<u64, Refusal>
     } else {
         Err(Refusal::UnsoundTracer)
     }
+}
+
+// A leaf: the same of a part of the field.
+pub fn tracer_total(part: &[u32], grid: Grid) -> Result<u64, Refusal>
+    requires { length part.now ≡ part_length quadratic grid.shape }
+    ensures { answered result ≡ searched grid.shape part.now }
+{
+    search(&Part { numbers: part }, grid)
 }
