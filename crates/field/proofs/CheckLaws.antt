@@ -1,5 +1,5 @@
 -- The calls' checks: what the reading of a tracer's total, which mass, emission and withdrawal begin with, says of the call.
-use mathlib.Core.Path.{◌≡◌, refl, sym, ap, ◌∙◌}
+use mathlib.Core.Path.{◌≡◌, refl, sym, ap, subst, ◌∙◌}
 use mathlib.Core.Bool.{true, false, ◌&&◌}
 use mathlib.Core.List.{List, [], ◌∷◌, ◌++◌}
 use Prim.Native.Nat.{ℕ, ◌+◌, ◌≤◌, ◌<◌}
@@ -100,7 +100,7 @@ module _ (g : Shape) (s i j : ℕ) (f : List ℕ) where
   inside t e o =
       let h = found g s f t e in
       let b = both_yes (ltb i g.nx) (ltb j g.ny) (rw o tt) in
-      record { admits = h.shape; tracer = h.tracer; column = ltb→lt _ _ b.0; row = ltb→lt _ _ b.1 }
+      record { tracer = h.tracer; column = ltb→lt _ _ b.0; row = ltb→lt _ _ b.1 }
 
   pub mass-refused : (n : ℕ) → total_reading quadratic g s f ≡ refused n → mass_reading quadratic g s i j f ≡ refused n
   mass-refused n e = mass-reply g s f i j ∙ first-refused g s f _ _ n e
@@ -138,7 +138,7 @@ module _ (g : Shape) (s i j : ℕ) (f : List ℕ) where
       let column = ltb→lt _ _ b.0 in
       let row = ltb→lt _ _ b.1 in
       record {
-        within = record { admits = (ranges g c.0); tracer = ltb→lt _ _ c.1.1.1.0; column = column; row = row };
+        within = record { tracer = ltb→lt _ _ c.1.1.1.0; column = column; row = row };
         room = leb→le _ _ c.1.0;
         is = sym q;
         small = omega (arith, total-small quadratic g (part quadratic g s f) (sound-there quadratic g (part quadratic g s f) (ltb s g.tracers) c.1.1.1.0 c.1.1.0), mass-le-total quadratic g (part quadratic g s f) (element g i j) (element-lt g i j column row));
@@ -155,6 +155,11 @@ module _ (g : Shape) (s i j : ℕ) (f : List ℕ) where
   pub withdrawal-accepted : (q h : ℕ) → mass_reading quadratic g s i j f ≡ accepted h → q ≤ h → (call quadratic g s (withdrawal i j q) f).reply ≡ accepted no_report
   unfolding mass_reading answer
   withdrawal-accepted q h e b = withdrawal-reply g s f i j q ∙ prefix-accepted five (check 10 (leb q m) ∷ []) m h no_report e ∙ (rw (← (held h e).is, le-leb _ _ b))
+
+-- what a call on the grid of a shape gives is what it gives on the shape
+pub on_shape : {a : Answer (Unit {0})} {field : List ℕ} {g h : Shape} (s : ℕ) (op : Operation Lent) (f : List ℕ) → g ≡ h
+    → (a ≡ plain (call quadratic g s op f).reply) × (field ≡ (call quadratic g s op f).field) → (a ≡ plain (call quadratic h s op f).reply) × (field ≡ (call quadratic h s op f).field)
+on_shape {a} {field} s op f e p = subst (λ k. (a ≡ plain (call quadratic k s op f).reply) × (field ≡ (call quadratic k s op f).field)) e p
 
 -- what a refused and an accepted call leave
 module _ (g : Shape) (s : ℕ) (op : Operation Lent) (f : List ℕ) where
@@ -185,3 +190,8 @@ module _ (g : Shape) (s i j q : ℕ) (f : List ℕ) where
   pub emission-accepted : (t : ℕ) → total_reading quadratic g s f ≡ accepted t → on_grid g i j ≡ true → t + q ≤ limit → (call quadratic g s (emission i j q) f).reply ≡ accepted no_report
   unfolding answer
   emission-accepted t e o b = emission-reply g s f i j q ∙ first-accepted g s f rest9 no_report t e ∙ (rw (o, ← (found g s f t e).sum, le-leb _ _ b))
+
+-- 2 is the first check of every call on a tracer
+pub call-bad-shape : (g : Shape) (s : ℕ) (op : Operation Lent) (f : List ℕ) → admitted g ≡ false → (call quadratic g s op f).reply ≡ refused 2
+unfolding call answer
+call-bad-shape g s op f e = rw e

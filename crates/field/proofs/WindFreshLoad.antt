@@ -25,7 +25,7 @@ module _ (g : Shape) where
   pub inside_of : (i j : ℕ) → admitted g ≡ true → on_grid g i j ≡ true → Inside g 0 i j
   inside_of i j a o =
       let t = both_yes (ltb i g.nx) (ltb j g.ny) (subst T (sym o) tt) in
-      record { admits = admitted-is g a; tracer = (admitted-is g a).tracers-above; column = ltb→lt _ _ t.0; row = ltb→lt _ _ t.1 }
+      record { tracer = (admitted-is g a).tracers-above; column = ltb→lt _ _ t.0; row = ltb→lt _ _ t.1 }
 
 -- ---- wind
 module _ (g : Shape) (f : Face) (w : List ℤ) where
@@ -53,6 +53,10 @@ module _ (g : Shape) (f : Face) (w : List ℤ) where
   unfolding wind_reply new_wind wind_after answer after
   wind-done a l r o = rw (a, le-leb (faces g) (length w) l, r, o) (refl, refl)
 
+-- what is given on the grid of a shape is given on the shape
+pub wind-on-shape : {a : Answer (Unit {0})} {new : List ℤ} {g h : Shape} (f : Face) (w : List ℤ) → g ≡ h → (a ≡ wind_reply g (one_face f) w) × (new ≡ wind_after g (one_face f) w) → (a ≡ wind_reply h (one_face f) w) × (new ≡ wind_after h (one_face f) w)
+wind-on-shape {a} {new} f w e p = subst (λ k. (a ≡ wind_reply k (one_face f) w) × (new ≡ wind_after k (one_face f) w)) e p
+
 -- ---- fresh
 module _ (g : Shape) (field : List ℕ) (w : List ℤ) where
   abbrev Freshened : Answer (Unit {0}) → List ℕ → List ℤ → Type 0
@@ -74,6 +78,12 @@ module _ (g : Shape) (field : List ℕ) (w : List ℤ) where
       → Freshened (accepted tt) (overwrite 0 (replicate (field_length quadratic g) 0) field) (overwrite 0 (replicate (faces g) (pos 0)) w)
   unfolding fresh_reply fresh_field fresh_wind zero_field zero_wind answer after
   fresh-done a l k = rw (a, le-leb (field_length quadratic g) (length field) l, le-leb (faces g) (length w) k) (refl, (refl, refl))
+
+-- what is given on the grid of a shape is given on the shape
+pub fresh-on-shape : {a : Answer (Unit {0})} {f' : List ℕ} {w' : List ℤ} {g h : Shape} (field : List ℕ) (w : List ℤ) → g ≡ h
+    → (a ≡ fresh_reply quadratic g field w) × ((f' ≡ fresh_field quadratic g field w) × (w' ≡ fresh_wind quadratic g field w))
+    → (a ≡ fresh_reply quadratic h field w) × ((f' ≡ fresh_field quadratic h field w) × (w' ≡ fresh_wind quadratic h field w))
+fresh-on-shape {a} {f'} {w'} field w e p = subst (λ k. (a ≡ fresh_reply quadratic k field w) × ((f' ≡ fresh_field quadratic k field w) × (w' ≡ fresh_wind quadratic k field w))) e p
 
 -- ---- load
 module _ (g : Shape) (numbers : List ℕ) where

@@ -6,13 +6,14 @@ ghost use Rattle.rules.specs.Field.{quadratic};
 ghost use Rattle.rules.specs.Calls.{load, emission, withdrawal, CallGives, FreshGives, WindGives, one_face};
 ghost use Rattle.rules.specs.Answers.{answers};
 
+use field_layout::Grid;
 use field_search::LIMIT;
 use rules::element::{NODES, NUMBERS};
 use rules::{Face, Refusal, Shape};
 
 mod readings; // readings.rt: an element's mass, a tracer's total
 
-pub use readings::{element_mass, mass, total};
+pub use readings::{element_mass, mass, mass_on, total, total_on};
 
 // Emission of q into element (i, j) of a tracer.
 pub fn emission(
@@ -25,14 +26,15 @@ pub fn emission(
 ) -> Result<(), Refusal>
     ensures { CallGives quadratic shape tracer (emission i j q) field.old (answers result) field.new }
 {
-    let sum = total(field, shape, tracer)?;
-    if !field_layout::on_grid(shape, i, j) {
+    let grid = Grid::try_from(shape)?;
+    let sum = total_on(field, grid, tracer)?;
+    if !grid.has(i, j) {
         return Err(Refusal::NoSuchElement);
     }
     if LIMIT - sum < q {
         return Err(Refusal::TotalAboveLimit);
     }
-    let start = field_layout::element_start(shape, tracer, i, j);
+    let start = grid.element_start(tracer, i, j);
     let end = start + NUMBERS;
     field_elements::element::emit(&mut field[start..end], q);
     Ok(())
@@ -49,11 +51,12 @@ pub fn withdrawal(
 ) -> Result<(), Refusal>
     ensures { CallGives quadratic shape tracer (withdrawal i j q) field.old (answers result) field.new }
 {
-    let held = mass(field, shape, tracer, i, j)?;
+    let grid = Grid::try_from(shape)?;
+    let held = mass_on(field, grid, tracer, i, j)?;
     if held < q {
         return Err(Refusal::MassTooSmall);
     }
-    let start = field_layout::element_start(shape, tracer, i, j);
+    let start = grid.element_start(tracer, i, j);
     let end = start + NUMBERS;
     field_elements::element::withdraw(&mut field[start..end], q);
     Ok(())
@@ -63,24 +66,22 @@ pub fn withdrawal(
 pub fn load(field: &mut [u32], numbers: &[u32], shape: Shape, tracer: usize) -> Result<(), Refusal>
     ensures { CallGives quadratic shape tracer (load numbers.now) field.old (answers result) field.new }
 {
-    if !field_layout::admitted(shape) {
-        return Err(Refusal::BadShape);
-    }
-    if field.len() < field_layout::field_length(shape) {
+    let grid = Grid::try_from(shape)?;
+    if field.len() < grid.field_length() {
         return Err(Refusal::ShortBuffer);
     }
-    let n = field_layout::elements(shape);
+    let n = grid.elements();
     if numbers.len() < n * NODES {
         return Err(Refusal::ShortBuffer);
     }
-    if shape.tracers <= tracer {
+    if grid.shape.tracers <= tracer {
         return Err(Refusal::NoSuchTracer);
     }
     if LIMIT < field_elements::fill::loaded_total(numbers, n) {
         return Err(Refusal::TotalAboveLimit);
     }
-    let start = field_layout::tracer_start(shape, tracer);
-    let end = start + field_layout::elements_length(shape);
+    let start = grid.tracer_start(tracer);
+    let end = start + grid.elements_length();
     field_elements::fill::lay(&mut field[start..end], numbers, n);
     Ok(())
 }
@@ -89,11 +90,9 @@ pub fn load(field: &mut [u32], numbers: &[u32], shape: Shape, tracer: usize) -> 
 pub fn fresh(field: &mut [u32], winds: &mut [i16], shape: Shape) -> Result<(), Refusal>
     ensures { FreshGives quadratic shape field.old winds.old (answers result) field.new winds.new }
 {
-    if !field_layout::admitted(shape) {
-        return Err(Refusal::BadShape);
-    }
-    let length = field_layout::field_length(shape);
-    let faces = field_layout::faces(shape);
+    let grid = Grid::try_from(shape)?;
+    let length = grid.field_length();
+    let faces = grid.faces();
     if field.len() < length {
         return Err(Refusal::ShortBuffer);
     }
@@ -109,20 +108,16 @@ pub fn fresh(field: &mut [u32], winds: &mut [i16], shape: Shape) -> Result<(), R
 pub fn wind(winds: &mut [i16], shape: Shape, face: Face) -> Result<(), Refusal>
     ensures { WindGives shape (one_face face) winds.old (answers result) winds.new }
 {
-    let new = face.wind;
-    if !field_layout::admitted(shape) {
-        return Err(Refusal::BadShape);
-    }
-    if winds.len() < field_layout::faces(shape) {
+    let grid = Grid::try_from(shape)?;
+    if winds.len() < grid.faces() {
         return Err(Refusal::ShortBuffer);
     }
-    if !field_layout::wind_in_range(new) {
+    if !field_layout::wind_in_range(face.wind) {
         return Err(Refusal::WindOutOfRange);
     }
-    if !field_layout::on_grid(shape, face.i, face.j) {
+    if !grid.has(face.i, face.j) {
         return Err(Refusal::NoSuchElement);
     }
-    let at = field_layout::face_at(shape, face);
-    winds[at] = new;
+    winds[grid.face_at(face)] = face.wind;
     Ok(())
 }

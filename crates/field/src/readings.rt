@@ -1,49 +1,63 @@
-// The readings of a field, and an element's mass as a leaf.
+// The readings of a field: a tracer's total and an element's mass, as calls, and as leaves on the grid of an admitted shape.
 ghost use Rattle.std.specs.Prelude.{◌≡◌, ◌≤◌, length};
 ghost use Rattle.rules.specs.Answers.{answers};
 ghost use Rattle.rules.specs.Field.{quadratic, element, field_length, part, mass};
 ghost use Rattle.rules.specs.Calls.{mass_reading, total_reading};
 ghost use Rattle.field_layout.specs.Places.{Inside};
 
+use field_layout::Grid;
 use rules::element::NUMBERS;
 use rules::{Refusal, Shape};
 
-// A tracer's total. Its checks (2, 4, 6, 7) are the first ones of `mass`, `emission` and `withdrawal`, too.
+// A tracer's total.
 pub fn total(field: &[u32], shape: Shape, tracer: usize) -> Result<u64, Refusal>
     ensures { answers result (total_reading quadratic shape tracer field.now) }
 {
-    if !field_layout::admitted(shape) {
-        return Err(Refusal::BadShape);
-    }
-    if field.len() < field_layout::field_length(shape) {
-        return Err(Refusal::ShortBuffer);
-    }
-    if shape.tracers <= tracer {
-        return Err(Refusal::NoSuchTracer);
-    }
-    let start = field_layout::tracer_start(shape, tracer);
-    let end = start + field_layout::part_length(shape);
-    field_search::tracer_total(&field[start..end], shape)
-}
-
-// The mass of an element that is there. A leaf: the field has room.
-pub fn element_mass(field: &[u32], shape: Shape, tracer: usize, i: usize, j: usize) -> u64
-    requires inside { Inside shape tracer i j }
-    requires shape_in_bounds { field_length quadratic shape ≤ length field.now }
-    ensures { result ≡ mass quadratic (part quadratic shape tracer field.now) (element shape i j) }
-{
-    let at = field_layout::element_start(shape, tracer, i, j);
-    let end = at + NUMBERS;
-    field_elements::element::mass(&field[at..end])
+    let grid = Grid::try_from(shape)?;
+    total_on(field, grid, tracer)
 }
 
 // An element's mass.
 pub fn mass(field: &[u32], shape: Shape, tracer: usize, i: usize, j: usize) -> Result<u64, Refusal>
     ensures { answers result (mass_reading quadratic shape tracer i j field.now) }
 {
-    total(field, shape, tracer)?;
-    if !field_layout::on_grid(shape, i, j) {
+    let grid = Grid::try_from(shape)?;
+    mass_on(field, grid, tracer, i, j)
+}
+
+// A tracer's total. Its checks (4, 6, 7) are the first ones of `mass_on`, of an emission, a withdrawal and a step, too.
+pub fn total_on(field: &[u32], grid: Grid, tracer: usize) -> Result<u64, Refusal>
+    ensures { answers result (total_reading quadratic grid.shape tracer field.now) }
+{
+    if field.len() < grid.field_length() {
+        return Err(Refusal::ShortBuffer);
+    }
+    if grid.shape.tracers <= tracer {
+        return Err(Refusal::NoSuchTracer);
+    }
+    let start = grid.tracer_start(tracer);
+    let end = start + grid.part_length();
+    field_search::tracer_total(&field[start..end], grid)
+}
+
+// An element's mass.
+pub fn mass_on(field: &[u32], grid: Grid, tracer: usize, i: usize, j: usize) -> Result<u64, Refusal>
+    ensures { answers result (mass_reading quadratic grid.shape tracer i j field.now) }
+{
+    total_on(field, grid, tracer)?;
+    if !grid.has(i, j) {
         return Err(Refusal::NoSuchElement);
     }
-    Ok(element_mass(field, shape, tracer, i, j))
+    Ok(element_mass(field, grid, tracer, i, j))
+}
+
+// The mass of an element that is there: the field has room.
+pub fn element_mass(field: &[u32], grid: Grid, tracer: usize, i: usize, j: usize) -> u64
+    requires inside { Inside grid.shape tracer i j }
+    requires shape_in_bounds { field_length quadratic grid.shape ≤ length field.now }
+    ensures { result ≡ mass quadratic (part quadratic grid.shape tracer field.now) (element grid.shape i j) }
+{
+    let at = grid.element_start(tracer, i, j);
+    let end = at + NUMBERS;
+    field_elements::element::mass(&field[at..end])
 }

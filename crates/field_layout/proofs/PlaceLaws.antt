@@ -9,7 +9,7 @@ use lib.IntN.{ℤ, pos, negsuc}
 use lib.Signed.{lt_z, le_z}
 use Rattle.whole.proofs.OverwriteLaws.{part_room}
 use Rattle.rules.specs.declared.Shape.{Shape}
-use Rattle.rules.specs.Field.{quadratic, elements, element, element_length, part_length, field_length, Admitted, elements_length, wind_in_range}
+use Rattle.rules.specs.Field.{quadratic, admitted, elements, element, element_length, part_length, field_length, Admitted, elements_length, wind_in_range}
 use Rattle.rules.specs.Sizes.{most_elements}
 use Rattle.rules.proofs.GridLaws.{element-lt}
 use Rattle.rules.proofs.ShapeLaws.{elements-le}
@@ -35,6 +35,11 @@ module _ (g : Shape) where
   pub field_is : field_length quadratic g ≡ g.tracers * part_length quadratic g
   unfolding field_length
   field_is = refl
+
+  -- the test on a shape whose bounds are known
+  pub is-admitted : Admitted g → admitted g ≡ true
+  unfolding admitted
+  is-admitted h = rw (le-leb 1 g.nx h.nx-above, le-leb g.nx 64 h.nx-small, le-leb 1 g.ny h.ny-above, le-leb g.ny 64 h.ny-small, le-leb 1 g.tracers h.tracers-above, le-leb g.tracers 8 h.tracers-small) refl
 
   pub part-le : Admitted g → part_length quadratic g ≤ most_part
   part-le h = omega (arith, part-is, elements-le g h)

@@ -7,6 +7,7 @@ use native.Mathlib.Omega.{arith}
 use native.Mathlib.Nat.{add-sub_cancel_left}
 use lib.ListN.{length, take, drop}
 use Rattle.rules.proofs.AnswerLaws.{passed_on}
+use Rattle.field_layout.proofs.GridLaws.{refused-2}
 use Rattle.rules.specs.Answers.{accepted}
 use Rattle.rules.specs.Field.{quadratic, on_grid, element, mass, part}
 use Rattle.rules.specs.Calls.{total_reading, emitted}
@@ -17,41 +18,46 @@ use Rattle.rules.specs.Calls.{emission, done}
 use Rattle.rules.proofs.CallLaws.{length-emitted}
 use Rattle.rules.proofs.PartLaws.{mass-le-total}
 use Rattle.rules.proofs.GridLaws.{element-lt}
-use Rattle.field.proofs.CheckLaws.{found, inside, call-refused, call-accepted, emission-refused, emission-off-grid, emission-above, emission-accepted}
+use Rattle.field.proofs.CheckLaws.{found, inside, call-refused, call-accepted, on_shape, call-bad-shape, emission-refused, emission-off-grid, emission-above, emission-accepted}
 use Rattle.field.proofs.InPlaceLaws.{mass-lent, emitted-lent, back-in-place}
 use Rattle.field.proofs.emission.Goals as goal
-use Rattle.field.proofs.emission.Goals.{After-element_start-start, After-emit-arg-1, Else-not-on_grid, In_ok-sum}
+use Rattle.field.proofs.emission.Goals.{After-element_start-start, After-emit-arg-1, Else-not-has, In_ok-sum}
 
 -- what the reading of the total says
-read : (c : In_ok-sum) → total_reading quadratic c.args.shape c.args.tracer c.args.field.now ≡ accepted c.in_ok-sum.sum
+read : (c : In_ok-sum) → total_reading quadratic c.in_ok-grid.grid.shape c.args.tracer c.args.field.now ≡ accepted c.in_ok-sum.sum
 read c = sym c.in_ok-sum.ensures
 
-pub returns-then-not-on_grid : goal.returns-then-not-on_grid
-returns-then-not-on_grid c = let a = c.args in call-refused a.shape a.tracer (emission a.i a.j a.q) a.field.now 8 (emission-off-grid a.shape a.tracer a.i a.j a.q a.field.now _ (read (goal.at.returns-then-not-on_grid c).In_ok-sum) (sym c.on_grid.ensures ∙ c.if-not-on_grid.true))
+pub returns-then-not-has : goal.returns-then-not-has
+returns-then-not-has c = let a = c.args in
+    let g = c.in_ok-grid.grid.shape in on_shape a.tracer (emission a.i a.j a.q) a.field.now c.in_ok-grid.ensures.1 (call-refused g a.tracer (emission a.i a.j a.q) a.field.now 8 (emission-off-grid g a.tracer a.i a.j a.q a.field.now _ (read (goal.at.returns-then-not-has c).In_ok-sum) (sym c.has.ensures ∙ c.if-not-has.true)))
 
-grid : (c : Else-not-on_grid) → on_grid c.args.shape c.args.i c.args.j ≡ true
-grid c = sym c.on_grid.ensures ∙ c.if-not-on_grid.false
+grid : (c : Else-not-has) → on_grid c.in_ok-grid.grid.shape c.args.i c.args.j ≡ true
+grid c = sym c.has.ensures ∙ c.if-not-has.false
 
-within : (c : Else-not-on_grid) → Inside c.args.shape c.args.tracer c.args.i c.args.j
-within c = let a = c.args in inside a.shape a.tracer a.i a.j a.field.now _ (read c.before.before) (grid c)
+within : (c : Else-not-has) → Inside c.in_ok-grid.grid.shape c.args.tracer c.args.i c.args.j
+within c = let a = c.args in
+    let g = c.in_ok-grid.grid.shape in inside g a.tracer a.i a.j a.field.now _ (read c.before.before) (grid c)
 
 pub overflow_sub-sum : goal.overflow_sub-sum
-overflow_sub-sum c = let a = c.args in (found a.shape a.tracer a.field.now _ (read (goal.at.overflow_sub-sum c).In_ok-sum)).small
+overflow_sub-sum c = let a = c.args in
+    let g = c.in_ok-grid.grid.shape in (found g a.tracer a.field.now _ (read (goal.at.overflow_sub-sum c).In_ok-sum)).small
 
 pub returns-then-sum-q : goal.returns-then-sum-q
 returns-then-sum-q c =
     let a = c.args in
-    let h = found a.shape a.tracer a.field.now _ (read (goal.at.returns-then-sum-q c).In_ok-sum) in
-    call-refused a.shape a.tracer (emission a.i a.j a.q) a.field.now 9 (emission-above a.shape a.tracer a.i a.j a.q a.field.now _ (read (goal.at.returns-then-sum-q c).In_ok-sum) (grid (goal.at.returns-then-sum-q c).Else-not-on_grid) (omega (arith, c.if-sum-q.true, h.small)))
+    let g = c.in_ok-grid.grid.shape in
+    let h = found g a.tracer a.field.now _ (read (goal.at.returns-then-sum-q c).In_ok-sum) in
+    on_shape a.tracer (emission a.i a.j a.q) a.field.now c.in_ok-grid.ensures.1 (call-refused g a.tracer (emission a.i a.j a.q) a.field.now 9 (emission-above g a.tracer a.i a.j a.q a.field.now _ (read (goal.at.returns-then-sum-q c).In_ok-sum) (grid (goal.at.returns-then-sum-q c).Else-not-has) (omega (arith, c.if-sum-q.true, h.small))))
 
 pub element_start-start-requires : goal.element_start-start-requires
-element_start-start-requires c = within (goal.at.element_start-start-requires c).Else-not-on_grid
+element_start-start-requires c = within (goal.at.element_start-start-requires c).Else-not-has
 
 -- the element ends within the field
 ends : (c : After-element_start-start) → (c.element_start-start.result + 10 ≤ length c.args.field.now) × (c.element_start-start.result + 10 ≤ 327680)
 ends c =
     let a = c.args in
-    element-ends a.shape a.tracer a.i a.j (within c.before.before) _ (found a.shape a.tracer a.field.now _ (read c.before.before.before.before)).room _ c.element_start-start.ensures
+    let g = c.in_ok-grid.grid.shape in
+    element-ends g a.tracer a.i a.j c.in_ok-grid.grid.admitted (within c.before.before) _ (found g a.tracer a.field.now _ (read c.before.before.before.before)).room _ c.element_start-start.ensures
 
 pub overflow_add-end : goal.overflow_add-end
 overflow_add-end c = record { fits = omega (arith, ends (goal.at.overflow_add-end c).After-element_start-start) }
@@ -63,36 +69,48 @@ pub slice_bounds-emit-end : goal.slice_bounds-emit-end
 slice_bounds-emit-end c = omega (arith, ends (goal.at.slice_bounds-emit-end c).After-element_start-start)
 
 -- what is lent holds the element's mass
-lent-mass : (c : After-emit-arg-1) → mass quadratic (take (c.element_start-start.result + 10 - c.element_start-start.result) (drop c.element_start-start.result c.args.field.now)) 0 ≡ mass quadratic (part quadratic c.args.shape c.args.tracer c.args.field.now) (element c.args.shape c.args.i c.args.j)
+lent-mass : (c : After-emit-arg-1) → mass quadratic (take (c.element_start-start.result + 10 - c.element_start-start.result) (drop c.element_start-start.result c.args.field.now)) 0 ≡ mass quadratic (part quadratic c.in_ok-grid.grid.shape c.args.tracer c.args.field.now) (element c.in_ok-grid.grid.shape c.args.i c.args.j)
 lent-mass c =
     let a = c.args in
-    let st = element_start a.shape a.tracer a.i a.j in
-    rw c.element_start-start.ensures (mass-lent a.shape a.tracer a.i a.j a.field.now (within c.before.before.before) (found a.shape a.tracer a.field.now _ (read c.before.before.before.before.before)).room (st + 10 - st) (add-sub_cancel_left st 10))
+    let g = c.in_ok-grid.grid.shape in
+    let st = element_start g a.tracer a.i a.j in
+    rw c.element_start-start.ensures (mass-lent g a.tracer a.i a.j a.field.now (within c.before.before.before) (found g a.tracer a.field.now _ (read c.before.before.before.before.before)).room (st + 10 - st) (add-sub_cancel_left st 10))
 
 pub emit-requires : goal.emit-requires
 emit-requires c =
     let r = c.element_start-start.result in
     let a = c.args in
-    let h = found a.shape a.tracer a.field.now _ (read (goal.at.emit-requires c).In_ok-sum) in
-    let w = within (goal.at.emit-requires c).Else-not-on_grid in
-    record { part_len = part-size 10 r (r + 10 - r) a.field.now (add-sub_cancel_left r 10) (ends (goal.at.emit-requires c).After-element_start-start).0; q_bound = omega (arith, lent-mass (goal.at.emit-requires c).After-emit-arg-1, mass-le-total quadratic a.shape (part quadratic a.shape a.tracer a.field.now) (element a.shape a.i a.j) (element-lt a.shape a.i a.j w.column w.row), h.sum, h.small, c.if-sum-q.false) }
+    let g = c.in_ok-grid.grid.shape in
+    let h = found g a.tracer a.field.now _ (read (goal.at.emit-requires c).In_ok-sum) in
+    let w = within (goal.at.emit-requires c).Else-not-has in
+    record { part_len = part-size 10 r (r + 10 - r) a.field.now (add-sub_cancel_left r 10) (ends (goal.at.emit-requires c).After-element_start-start).0; q_bound = omega (arith, lent-mass (goal.at.emit-requires c).After-emit-arg-1, mass-le-total quadratic g (part quadratic g a.tracer a.field.now) (element g a.i a.j) (element-lt g a.i a.j w.column w.row), h.sum, h.small, c.if-sum-q.false) }
 
 pub returns-in_err-sum : goal.returns-in_err-sum
 returns-in_err-sum c =
     let a = c.args in
-    let e = call-refused a.shape a.tracer (emission a.i a.j a.q) a.field.now _ (emission-refused a.shape a.tracer a.i a.j a.q a.field.now _ (sym c.in_err-sum.ensures)) in
-    (passed_on c.from_residual.result _ c.from_residual.ensures.1 ∙ e.0, e.1)
+    let g = c.in_ok-grid.grid.shape in
+    let r = c.from_residual-in_err-sum in
+    let e = on_shape a.tracer (emission a.i a.j a.q) a.field.now c.in_ok-grid.ensures.1 (call-refused g a.tracer (emission a.i a.j a.q) a.field.now _ (emission-refused g a.tracer a.i a.j a.q a.field.now _ (sym c.in_err-sum.ensures))) in
+    (passed_on r.result _ r.ensures.1 ∙ e.0, e.1)
+
+pub returns-in_err-grid : goal.returns-in_err-grid
+returns-in_err-grid c =
+    let a = c.args in
+    let e = call-refused a.shape a.tracer (emission a.i a.j a.q) a.field.now 2 (call-bad-shape a.shape a.tracer (emission a.i a.j a.q) a.field.now c.in_err-grid.ensures.0) in
+    (refused-2 a.shape c.from_residual.result _ c.from_residual.ensures.1 c.in_err-grid.ensures ∙ e.0, e.1)
 
 pub returns : goal.returns
 unfolding done
 returns c =
     let a = c.args in
-    let st = element_start a.shape a.tracer a.i a.j in
-    let h = found a.shape a.tracer a.field.now _ (read (goal.at.returns c).In_ok-sum) in
-    let w = within (goal.at.returns c).Else-not-on_grid in
-    let e = call-accepted a.shape a.tracer (emission a.i a.j a.q) a.field.now _ (emission-accepted a.shape a.tracer a.i a.j a.q a.field.now _ (read (goal.at.returns c).In_ok-sum) (grid (goal.at.returns c).Else-not-on_grid) (omega (arith, c.if-sum-q.false, h.small))) in
+    let g = c.in_ok-grid.grid.shape in
+    let st = element_start g a.tracer a.i a.j in
+    let h = found g a.tracer a.field.now _ (read (goal.at.returns c).In_ok-sum) in
+    let w = within (goal.at.returns c).Else-not-has in
+    let e = call-accepted g a.tracer (emission a.i a.j a.q) a.field.now _ (emission-accepted g a.tracer a.i a.j a.q a.field.now _ (read (goal.at.returns c).In_ok-sum) (grid (goal.at.returns c).Else-not-has) (omega (arith, c.if-sum-q.false, h.small))) in
     let k = st + 10 - st in
     let ten-is = add-sub_cancel_left st 10 in
-    let x : c.emit.new.part ≡ emitted quadratic (element a.shape a.i a.j) a.q (part quadratic a.shape a.tracer a.field.now) =
-    c.emit.ensures ∙ (rw c.element_start-start.ensures (emitted-lent a.shape a.tracer a.i a.j a.field.now w h.room k ten-is a.q)) in
-    (e.0, (rw c.element_start-start.ensures (back-in-place a.shape a.tracer a.i a.j a.field.now w h.room k ten-is _ _ x (length-emitted quadratic (element a.shape a.i a.j) a.q (part quadratic a.shape a.tracer a.field.now)))) ∙ e.1)
+    let x : c.emit.new.part ≡ emitted quadratic (element g a.i a.j) a.q (part quadratic g a.tracer a.field.now) =
+    c.emit.ensures ∙ (rw c.element_start-start.ensures (emitted-lent g a.tracer a.i a.j a.field.now w h.room k ten-is a.q)) in
+    on_shape a.tracer (emission a.i a.j a.q) a.field.now c.in_ok-grid.ensures.1
+    (e.0, (rw c.element_start-start.ensures (back-in-place g a.tracer a.i a.j a.field.now w h.room k ten-is _ _ x (length-emitted quadratic (element g a.i a.j) a.q (part quadratic g a.tracer a.field.now)))) ∙ e.1)

@@ -1,88 +1,77 @@
 -- Load: each test is a check of the definition, in its order; the part that is lent, filled and given back is the tracer's part after the
 -- load.
 use mathlib.Core.Path.{◌≡◌, sym, ap, ◌∙◌}
-use mathlib.Core.Bool.{true}
 use Prim.Native.Nat.{◌+◌, ◌-◌, ◌*◌, ◌≤◌}
 use native.Mathlib.Nat.{add-sub_cancel_left}
 use native.Mathlib.Omega.{arith}
 use lib.ListN.{length}
 use Rattle.whole.specs.Table.{blocks}
-use Rattle.rules.specs.Field.{quadratic, admitted, elements, field_length, total}
-use Rattle.rules.specs.Calls.{loaded}
+use Rattle.rules.specs.Field.{quadratic, elements, field_length, total}
+use Rattle.rules.specs.Calls.{load, loaded}
 use Rattle.rules.specs.Calls.{loaded_element}
-use Rattle.rules.proofs.ShapeLaws.{admitted-is, elements-le}
+use Rattle.rules.proofs.ShapeLaws.{elements-le}
 use Rattle.rules.proofs.PartLaws.{part-is-elements}
-use Rattle.field_layout.proofs.PlaceLaws.{field-le, field_is, tracer-room, elements-are}
+use Rattle.field_layout.proofs.PlaceLaws.{is-admitted, field-le, field_is, tracer-room, elements-are}
 use Rattle.whole.proofs.OverwriteLaws.{part-size}
+use Rattle.field_layout.proofs.GridLaws.{refused-2}
+use Rattle.field.proofs.CheckLaws.{on_shape}
 use Rattle.field.proofs.WindFreshLoad.{load-total, load-back, load-2, load-4-field, load-4-numbers, load-7, load-9, load-done}
 use Rattle.field.proofs.load.Goals as goal
-use Rattle.field.proofs.load.Goals.{After-elements-n, After-elements_length, After-loaded_total, Else-field-field_length, Else-not-admitted, Else-numbers-n}
+use Rattle.field.proofs.load.Goals.{After-elements-n, After-elements_length, After-loaded_total, Else-field-field_length, Else-numbers-n}
 
-pub admitted-requires : goal.admitted-requires
-admitted-requires c = tt
-
-pub returns-then-not-admitted : goal.returns-then-not-admitted
-returns-then-not-admitted c = load-2 _ _ _ _ (sym c.admitted.ensures ∙ c.if-not-admitted.true)
+pub returns-in_err-grid : goal.returns-in_err-grid
+returns-in_err-grid c =
+    let a = c.args in
+    let e = load-2 a.shape a.tracer a.numbers.now a.field.now c.in_err-grid.ensures.0 in
+    (refused-2 a.shape c.from_residual.result _ c.from_residual.ensures.1 c.in_err-grid.ensures ∙ e.0, e.1)
 
 -- what each passed test says
-shape : (c : Else-not-admitted) → admitted c.args.shape ≡ true
-shape c = sym c.admitted.ensures ∙ c.if-not-admitted.false
-
-room : (c : Else-field-field_length) → field_length quadratic c.args.shape ≤ length c.args.field.now
+room : (c : Else-field-field_length) → field_length quadratic c.in_ok-grid.grid.shape ≤ length c.args.field.now
 room c = omega (arith, c.field_length.ensures)
 
-enough : (c : Else-numbers-n) → elements c.args.shape * 9 ≤ length c.args.numbers.now
+enough : (c : Else-numbers-n) → elements c.in_ok-grid.grid.shape * 9 ≤ length c.args.numbers.now
 enough c = omega (arith, c.elements-n.ensures)
 
 -- the sum that was made is the total
-summed : (c : After-loaded_total) → c.loaded_total.result ≡ total quadratic c.args.shape (loaded quadratic c.args.shape c.args.numbers.now)
+summed : (c : After-loaded_total) → c.loaded_total.result ≡ total quadratic c.in_ok-grid.grid.shape (loaded quadratic c.in_ok-grid.grid.shape c.args.numbers.now)
 summed c =
     let a = c.args in
-    (rw c.elements-n.ensures at c.loaded_total.ensures) ∙ sym (load-total a.shape a.numbers.now)
-
-pub field_length-requires : goal.field_length-requires
-field_length-requires c = admitted-is _ (shape (goal.at.field_length-requires c).Else-not-admitted)
+    (rw c.elements-n.ensures at c.loaded_total.ensures) ∙ sym (load-total c.in_ok-grid.grid.shape a.numbers.now)
 
 pub returns-then-field-field_length : goal.returns-then-field-field_length
-returns-then-field-field_length c = load-4-field _ _ _ _ (shape (goal.at.returns-then-field-field_length c).Else-not-admitted) (omega (arith, c.field_length.ensures))
-
-pub elements-n-requires : goal.elements-n-requires
-elements-n-requires c = admitted-is _ (shape (goal.at.elements-n-requires c).Else-not-admitted)
+returns-then-field-field_length c = on_shape c.args.tracer (load c.args.numbers.now) c.args.field.now c.in_ok-grid.ensures.1 (load-4-field _ _ _ _ (is-admitted _ c.in_ok-grid.grid.admitted) (omega (arith, c.field_length.ensures)))
 
 -- the sizes of an admitted shape
 small : (c : After-elements-n) → c.elements-n.result ≤ 4096
-small c = let g = c.args.shape in omega (arith, c.elements-n.ensures, elements-le g (admitted-is g ((let h : admitted c.args.shape ≡ true = sym c.admitted.ensures ∙ c.if-not-admitted.false in h))))
+small c = let g = c.in_ok-grid.grid.shape in omega (arith, c.elements-n.ensures, elements-le g (c.in_ok-grid.grid.admitted))
 
 pub overflow_mul-n : goal.overflow_mul-n
 overflow_mul-n c = omega (arith, small (goal.at.overflow_mul-n c).After-elements-n)
 
 pub returns-then-numbers-n : goal.returns-then-numbers-n
-returns-then-numbers-n c = load-4-numbers _ _ _ _ (shape (goal.at.returns-then-numbers-n c).Else-not-admitted) (room (goal.at.returns-then-numbers-n c).Else-field-field_length) (omega (arith, c.elements-n.ensures))
+returns-then-numbers-n c = on_shape c.args.tracer (load c.args.numbers.now) c.args.field.now c.in_ok-grid.ensures.1 (load-4-numbers _ _ _ _ (is-admitted _ c.in_ok-grid.grid.admitted) (room (goal.at.returns-then-numbers-n c).Else-field-field_length) (omega (arith, c.elements-n.ensures)))
 
-pub returns-then-shape-tracer : goal.returns-then-shape-tracer
-returns-then-shape-tracer c = load-7 _ _ _ _ (shape (goal.at.returns-then-shape-tracer c).Else-not-admitted) (room (goal.at.returns-then-shape-tracer c).Else-field-field_length) (enough (goal.at.returns-then-shape-tracer c).Else-numbers-n) c.if-shape-tracer.true
+pub returns-then-grid-tracer : goal.returns-then-grid-tracer
+returns-then-grid-tracer c = on_shape c.args.tracer (load c.args.numbers.now) c.args.field.now c.in_ok-grid.ensures.1 (load-7 _ _ _ _ (is-admitted _ c.in_ok-grid.grid.admitted) (room (goal.at.returns-then-grid-tracer c).Else-field-field_length) (enough (goal.at.returns-then-grid-tracer c).Else-numbers-n) c.if-grid-tracer.true)
 
 pub loaded_total-requires : goal.loaded_total-requires
 loaded_total-requires c = record { n_le_most_elements = small (goal.at.loaded_total-requires c).After-elements-n; n_in_bounds = omega arith }
 
 pub returns-then-loaded_total-gt-LIMIT : goal.returns-then-loaded_total-gt-LIMIT
-returns-then-loaded_total-gt-LIMIT c = load-9 _ _ _ _ (shape (goal.at.returns-then-loaded_total-gt-LIMIT c).Else-not-admitted) (room (goal.at.returns-then-loaded_total-gt-LIMIT c).Else-field-field_length) (enough (goal.at.returns-then-loaded_total-gt-LIMIT c).Else-numbers-n) c.if-shape-tracer.false (omega (arith, summed (goal.at.returns-then-loaded_total-gt-LIMIT c).After-loaded_total))
+returns-then-loaded_total-gt-LIMIT c = on_shape c.args.tracer (load c.args.numbers.now) c.args.field.now c.in_ok-grid.ensures.1 (load-9 _ _ _ _ (is-admitted _ c.in_ok-grid.grid.admitted) (room (goal.at.returns-then-loaded_total-gt-LIMIT c).Else-field-field_length) (enough (goal.at.returns-then-loaded_total-gt-LIMIT c).Else-numbers-n) c.if-grid-tracer.false (omega (arith, summed (goal.at.returns-then-loaded_total-gt-LIMIT c).After-loaded_total)))
 
 pub tracer_start-start-requires : goal.tracer_start-start-requires
-tracer_start-start-requires c = record { admitted = admitted-is _ (shape (goal.at.tracer_start-start-requires c).Else-not-admitted); tracer_lt_tracers = c.if-shape-tracer.false }
-
-pub elements_length-requires : goal.elements_length-requires
-elements_length-requires c = admitted-is _ (shape (goal.at.elements_length-requires c).Else-not-admitted)
+tracer_start-start-requires c = c.if-grid-tracer.false
 
 -- the part ends within the field
-end : (c : After-elements_length) → c.tracer_start-start.result + c.elements_length.result ≤ field_length quadratic c.args.shape
-end c = let a = c.args in omega (arith, c.elements_length.ensures, part-is-elements quadratic a.shape, c.tracer_start-start.ensures, tracer-room a.shape a.tracer c.if-shape-tracer.false)
+end : (c : After-elements_length) → c.tracer_start-start.result + c.elements_length.result ≤ field_length quadratic c.in_ok-grid.grid.shape
+end c = let a = c.args in omega (arith, c.elements_length.ensures, part-is-elements quadratic c.in_ok-grid.grid.shape, c.tracer_start-start.ensures, tracer-room c.in_ok-grid.grid.shape a.tracer c.if-grid-tracer.false)
 
 pub overflow_add-end : goal.overflow_add-end
-overflow_add-end c = let g = c.args.shape in omega (arith, end (goal.at.overflow_add-end c).After-elements_length, field_is g, field-le g (admitted-is g (shape (goal.at.overflow_add-end c).Else-not-admitted)))
+overflow_add-end c = let g = c.in_ok-grid.grid.shape in omega (arith, end (goal.at.overflow_add-end c).After-elements_length, field_is g, field-le g (c.in_ok-grid.grid.admitted))
 
 pub offset_bounds-field-start : goal.offset_bounds-field-start
-offset_bounds-field-start c = let g = c.args.shape in omega (arith, end (goal.at.offset_bounds-field-start c).After-elements_length, field_is g, field-le g (admitted-is g (shape (goal.at.offset_bounds-field-start c).Else-not-admitted)))
+offset_bounds-field-start c = let g = c.in_ok-grid.grid.shape in omega (arith, end (goal.at.offset_bounds-field-start c).After-elements_length, field_is g, field-le g (c.in_ok-grid.grid.admitted))
 
 pub slice_bounds-lay-end : goal.slice_bounds-lay-end
 slice_bounds-lay-end c = omega (arith, end (goal.at.slice_bounds-lay-end c).After-elements_length, room (goal.at.slice_bounds-lay-end c).Else-field-field_length)
@@ -92,7 +81,7 @@ lay-requires c =
     let a = c.args in
     let at = c.tracer_start-start.result in
     let n = c.elements_length.result in
-    let size : n ≡ c.elements-n.result * 10 = omega (arith, c.elements_length.ensures, elements-are a.shape, c.elements-n.ensures) in
+    let size : n ≡ c.elements-n.result * 10 = omega (arith, c.elements_length.ensures, elements-are c.in_ok-grid.grid.shape, c.elements-n.ensures) in
     record { part_len = part-size n at (at + n - at) a.field.now (add-sub_cancel_left at n) (omega (arith, end (goal.at.lay-requires c).After-elements_length, room (goal.at.lay-requires c).Else-field-field_length)) ∙ size; n_le_most_elements = small (goal.at.lay-requires c).After-elements-n; n_in_bounds = omega (arith, c.if-numbers-n.false) }
 
 pub returns : goal.returns
@@ -100,8 +89,9 @@ returns c =
     let a = c.args in
     let n = c.elements_length.result in
     let at = c.tracer_start-start.result in
-    let d = load-done a.shape a.tracer a.numbers.now a.field.now (shape (goal.at.returns c).Else-not-admitted) (room (goal.at.returns c).Else-field-field_length) (enough (goal.at.returns c).Else-numbers-n) c.if-shape-tracer.false (omega (arith, summed (goal.at.returns c).After-loaded_total, c.if-loaded_total-gt-LIMIT.false)) in (
+    let d = load-done c.in_ok-grid.grid.shape a.tracer a.numbers.now a.field.now (is-admitted _ c.in_ok-grid.grid.admitted) (room (goal.at.returns c).Else-field-field_length) (enough (goal.at.returns c).Else-numbers-n) c.if-grid-tracer.false (omega (arith, summed (goal.at.returns c).After-loaded_total, c.if-loaded_total-gt-LIMIT.false)) in
+    on_shape c.args.tracer (load c.args.numbers.now) c.args.field.now c.in_ok-grid.ensures.1 (
       d.0,
-      load-back a.shape a.tracer a.numbers.now a.field.now at (at + n - at) c.lay.new.part c.tracer_start-start.ensures (add-sub_cancel_left at n ∙ c.elements_length.ensures)
+      load-back c.in_ok-grid.grid.shape a.tracer a.numbers.now a.field.now at (at + n - at) c.lay.new.part c.tracer_start-start.ensures (add-sub_cancel_left at n ∙ c.elements_length.ensures)
           (c.lay.ensures ∙ ap (λ m. blocks m (loaded_element quadratic a.numbers.now)) c.elements-n.ensures) ∙ d.1,
     )

@@ -6,6 +6,7 @@ use native.Mathlib.Omega.{arith}
 use native.Mathlib.Nat.{add-sub_cancel_left}
 use lib.ListN.{length, take, drop}
 use Rattle.rules.proofs.AnswerLaws.{passed_on}
+use Rattle.field_layout.proofs.GridLaws.{refused-2}
 use Rattle.rules.specs.Answers.{accepted}
 use Rattle.rules.specs.Field.{quadratic, element, mass, part}
 use Rattle.rules.specs.Calls.{withdrawal, done, mass_reading, withdrawn}
@@ -13,20 +14,22 @@ use Rattle.rules.proofs.CallLaws.{length-withdrawn}
 use Rattle.field_layout.specs.Places.{element_start}
 use Rattle.field_layout.proofs.PlaceLaws.{element-ends}
 use Rattle.whole.proofs.OverwriteLaws.{part-size}
-use Rattle.field.proofs.CheckLaws.{Held, held, call-refused, call-accepted, withdrawal-refused, withdrawal-over, withdrawal-accepted}
+use Rattle.field.proofs.CheckLaws.{Held, held, call-refused, call-accepted, on_shape, call-bad-shape, withdrawal-refused, withdrawal-over, withdrawal-accepted}
 use Rattle.field.proofs.InPlaceLaws.{mass-lent, withdrawn-lent, back-in-place}
 use Rattle.field.proofs.withdrawal.Goals as goal
 use Rattle.field.proofs.withdrawal.Goals.{After-element_start-start, In_ok-held}
 
 -- what the reading of the mass says, and with it of the element
-read : (c : In_ok-held) → mass_reading quadratic c.args.shape c.args.tracer c.args.i c.args.j c.args.field.now ≡ accepted c.in_ok-held.held
+read : (c : In_ok-held) → mass_reading quadratic c.in_ok-grid.grid.shape c.args.tracer c.args.i c.args.j c.args.field.now ≡ accepted c.in_ok-held.held
 read c = sym c.in_ok-held.ensures
 
-known : (c : In_ok-held) → Held c.args.shape c.args.tracer c.args.i c.args.j c.args.field.now c.in_ok-held.held
-known c = let a = c.args in held a.shape a.tracer a.i a.j a.field.now _ (read c)
+known : (c : In_ok-held) → Held c.in_ok-grid.grid.shape c.args.tracer c.args.i c.args.j c.args.field.now c.in_ok-held.held
+known c = let a = c.args in
+    let g = c.in_ok-grid.grid.shape in held g a.tracer a.i a.j a.field.now _ (read c)
 
 pub returns-then-held-q : goal.returns-then-held-q
-returns-then-held-q c = let a = c.args in call-refused a.shape a.tracer (withdrawal a.i a.j a.q) a.field.now 10 (withdrawal-over a.shape a.tracer a.i a.j a.field.now a.q _ (read (goal.at.returns-then-held-q c).In_ok-held) c.if-held-q.true)
+returns-then-held-q c = let a = c.args in
+    let g = c.in_ok-grid.grid.shape in on_shape a.tracer (withdrawal a.i a.j a.q) a.field.now c.in_ok-grid.ensures.1 (call-refused g a.tracer (withdrawal a.i a.j a.q) a.field.now 10 (withdrawal-over g a.tracer a.i a.j a.field.now a.q _ (read (goal.at.returns-then-held-q c).In_ok-held) c.if-held-q.true))
 
 pub element_start-start-requires : goal.element_start-start-requires
 element_start-start-requires c = (known (goal.at.element_start-start-requires c).In_ok-held).within
@@ -35,8 +38,9 @@ element_start-start-requires c = (known (goal.at.element_start-start-requires c)
 ends : (c : After-element_start-start) → (c.element_start-start.result + 10 ≤ length c.args.field.now) × (c.element_start-start.result + 10 ≤ 327680)
 ends c =
     let a = c.args in
+    let g = c.in_ok-grid.grid.shape in
     let k = known c.before.before in
-    element-ends a.shape a.tracer a.i a.j k.within _ k.room _ c.element_start-start.ensures
+    element-ends g a.tracer a.i a.j c.in_ok-grid.grid.admitted k.within _ k.room _ c.element_start-start.ensures
 
 pub overflow_add-end : goal.overflow_add-end
 overflow_add-end c = record { fits = omega (arith, ends (goal.at.overflow_add-end c).After-element_start-start) }
@@ -50,28 +54,39 @@ slice_bounds-withdraw-end c = omega (arith, ends (goal.at.slice_bounds-withdraw-
 pub withdraw-requires : goal.withdraw-requires
 withdraw-requires c =
     let a = c.args in
+    let g = c.in_ok-grid.grid.shape in
     let k = known (goal.at.withdraw-requires c).In_ok-held in
     let r = c.element_start-start.result in
-    let st = element_start a.shape a.tracer a.i a.j in
-    let m : mass quadratic (take (r + 10 - r) (drop r a.field.now)) 0 ≡ mass quadratic (part quadratic a.shape a.tracer a.field.now) (element a.shape a.i a.j) =
-    rw c.element_start-start.ensures (mass-lent a.shape a.tracer a.i a.j a.field.now k.within k.room (st + 10 - st) (add-sub_cancel_left st 10)) in
+    let st = element_start g a.tracer a.i a.j in
+    let m : mass quadratic (take (r + 10 - r) (drop r a.field.now)) 0 ≡ mass quadratic (part quadratic g a.tracer a.field.now) (element g a.i a.j) =
+    rw c.element_start-start.ensures (mass-lent g a.tracer a.i a.j a.field.now k.within k.room (st + 10 - st) (add-sub_cancel_left st 10)) in
     record { part_len = part-size 10 r (r + 10 - r) a.field.now (add-sub_cancel_left r 10) (ends (goal.at.withdraw-requires c).After-element_start-start).0; part_bound = omega (arith, m, k.is, k.small); q_bound = omega (arith, m, k.is, c.if-held-q.false) }
 
 pub returns-in_err-held : goal.returns-in_err-held
 returns-in_err-held c =
     let a = c.args in
-    let e = call-refused a.shape a.tracer (withdrawal a.i a.j a.q) a.field.now _ (withdrawal-refused a.shape a.tracer a.i a.j a.field.now a.q _ (sym c.in_err-held.ensures)) in
-    (passed_on c.from_residual.result _ c.from_residual.ensures.1 ∙ e.0, e.1)
+    let g = c.in_ok-grid.grid.shape in
+    let r = c.from_residual-in_err-held in
+    let e = on_shape a.tracer (withdrawal a.i a.j a.q) a.field.now c.in_ok-grid.ensures.1 (call-refused g a.tracer (withdrawal a.i a.j a.q) a.field.now _ (withdrawal-refused g a.tracer a.i a.j a.field.now a.q _ (sym c.in_err-held.ensures))) in
+    (passed_on r.result _ r.ensures.1 ∙ e.0, e.1)
+
+pub returns-in_err-grid : goal.returns-in_err-grid
+returns-in_err-grid c =
+    let a = c.args in
+    let e = call-refused a.shape a.tracer (withdrawal a.i a.j a.q) a.field.now 2 (call-bad-shape a.shape a.tracer (withdrawal a.i a.j a.q) a.field.now c.in_err-grid.ensures.0) in
+    (refused-2 a.shape c.from_residual.result _ c.from_residual.ensures.1 c.in_err-grid.ensures ∙ e.0, e.1)
 
 pub returns : goal.returns
 unfolding done
 returns c =
     let a = c.args in
+    let g = c.in_ok-grid.grid.shape in
     let k = known (goal.at.returns c).In_ok-held in
-    let st = element_start a.shape a.tracer a.i a.j in
+    let st = element_start g a.tracer a.i a.j in
     let n = st + 10 - st in
     let ten-is = add-sub_cancel_left st 10 in
-    let e = call-accepted a.shape a.tracer (withdrawal a.i a.j a.q) a.field.now _ (withdrawal-accepted a.shape a.tracer a.i a.j a.field.now a.q _ (read (goal.at.returns c).In_ok-held) c.if-held-q.false) in
-    let x : c.withdraw.new.part ≡ withdrawn quadratic (element a.shape a.i a.j) a.q (part quadratic a.shape a.tracer a.field.now) =
-    c.withdraw.ensures ∙ (rw c.element_start-start.ensures (withdrawn-lent a.shape a.tracer a.i a.j a.field.now k.within k.room n ten-is a.q)) in
-    (e.0, (rw c.element_start-start.ensures (back-in-place a.shape a.tracer a.i a.j a.field.now k.within k.room n ten-is _ _ x (length-withdrawn quadratic (element a.shape a.i a.j) a.q (part quadratic a.shape a.tracer a.field.now)))) ∙ e.1)
+    let e = call-accepted g a.tracer (withdrawal a.i a.j a.q) a.field.now _ (withdrawal-accepted g a.tracer a.i a.j a.field.now a.q _ (read (goal.at.returns c).In_ok-held) c.if-held-q.false) in
+    let x : c.withdraw.new.part ≡ withdrawn quadratic (element g a.i a.j) a.q (part quadratic g a.tracer a.field.now) =
+    c.withdraw.ensures ∙ (rw c.element_start-start.ensures (withdrawn-lent g a.tracer a.i a.j a.field.now k.within k.room n ten-is a.q)) in
+    on_shape a.tracer (withdrawal a.i a.j a.q) a.field.now c.in_ok-grid.ensures.1
+    (e.0, (rw c.element_start-start.ensures (back-in-place g a.tracer a.i a.j a.field.now k.within k.room n ten-is _ _ x (length-withdrawn quadratic (element g a.i a.j) a.q (part quadratic g a.tracer a.field.now)))) ∙ e.1)

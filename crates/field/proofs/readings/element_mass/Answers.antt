@@ -14,7 +14,7 @@ use Rattle.field.proofs.readings.element_mass.Goals.{After-element_start-at}
 -- the element ends within the field
 ends : (c : After-element_start-at) → (c.element_start-at.result + 10 ≤ length c.args.field.now) × (c.element_start-at.result + 10 ≤ 327680)
 ends c =
-    element-ends c.args.shape c.args.tracer c.args.i c.args.j c.requires.inside _ c.requires.shape_in_bounds _ c.element_start-at.ensures
+    element-ends c.args.grid.shape c.args.tracer c.args.i c.args.j c.args.grid.admitted c.requires.inside _ c.requires.shape_in_bounds _ c.element_start-at.ensures
 
 pub overflow_add-end : goal.overflow_add-end
 overflow_add-end c = record { fits = omega (arith, ends (goal.at.overflow_add-end c).After-element_start-at) }
@@ -31,5 +31,5 @@ mass-requires c = let r = c.element_start-at.result in part-size 10 r (r + 10 - 
 pub returns : goal.returns
 returns c =
     let a = c.args in
-    let st = element_start a.shape a.tracer a.i a.j in
-    c.mass.ensures ∙ (rw c.element_start-at.ensures (mass-lent a.shape a.tracer a.i a.j a.field.now c.requires.inside c.requires.shape_in_bounds (st + 10 - st) (add-sub_cancel_left st 10)))
+    let st = element_start a.grid.shape a.tracer a.i a.j in
+    c.mass.ensures ∙ (rw c.element_start-at.ensures (mass-lent a.grid.shape a.tracer a.i a.j a.field.now c.requires.inside c.requires.shape_in_bounds (st + 10 - st) (add-sub_cancel_left st 10)))

@@ -1,35 +1,14 @@
--- The reading of a mass: the refusals of the total's reading, then the grid's test, then the element's mass.
-use mathlib.Core.Path.{◌≡◌, sym, ap, ◌∙◌}
-use mathlib.Core.Bool.{true}
-use Rattle.rules.proofs.AnswerLaws.{passed_on}
-use Rattle.rules.specs.Answers.{accepted}
-use Rattle.rules.specs.Field.{quadratic, on_grid}
-use Rattle.rules.specs.Calls.{total_reading}
-use Rattle.field_layout.specs.Places.{Inside}
-use Rattle.field.proofs.CheckLaws.{found, inside, mass-refused, mass-off-grid, mass-found}
+-- A reading by shape is that on its grid, or refusal 2.
+use mathlib.Core.Path.{sym, subst, ◌∙◌}
+use Rattle.field_layout.proofs.GridLaws.{refused-2}
+use Rattle.rules.specs.Answers.{answers}
+use Rattle.rules.specs.Field.{quadratic}
+use Rattle.rules.specs.Calls.{mass_reading}
+use Rattle.field.proofs.CheckLaws.{total-bad-shape, mass-refused}
 use Rattle.field.proofs.readings.mass.Goals as goal
-use Rattle.field.proofs.readings.mass.Goals.{Else-not-on_grid, In_ok-total}
 
--- what the reading of the total says
-read : (c : In_ok-total) → total_reading quadratic c.args.shape c.args.tracer c.args.field.now ≡ accepted c.in_ok-total.field-0
-read c = sym c.in_ok-total.ensures
-
-pub returns-then-not-on_grid : goal.returns-then-not-on_grid
-returns-then-not-on_grid c = let a = c.args in sym (mass-off-grid a.shape a.tracer a.i a.j a.field.now _ (read (goal.at.returns-then-not-on_grid c).In_ok-total) (sym c.on_grid.ensures ∙ c.if-not-on_grid.true))
-
-grid : (c : Else-not-on_grid) → on_grid c.args.shape c.args.i c.args.j ≡ true
-grid c = sym c.on_grid.ensures ∙ c.if-not-on_grid.false
-
-within : (c : Else-not-on_grid) → Inside c.args.shape c.args.tracer c.args.i c.args.j
-within c = let a = c.args in inside a.shape a.tracer a.i a.j a.field.now _ (sym c.in_ok-total.ensures) (grid c)
-
-pub element_mass-requires : goal.element_mass-requires
-element_mass-requires c = let a = c.args in record { inside = within (goal.at.element_mass-requires c).Else-not-on_grid; shape_in_bounds = (found a.shape a.tracer a.field.now _ (read (goal.at.element_mass-requires c).In_ok-total)).room }
-
-pub returns-in_err-total : goal.returns-in_err-total
-returns-in_err-total c = let a = c.args in passed_on c.from_residual.result _ c.from_residual.ensures.1 ∙ sym (mass-refused a.shape a.tracer a.i a.j a.field.now _ (sym c.in_err-total.ensures))
+pub returns-in_err-grid : goal.returns-in_err-grid
+returns-in_err-grid c = let a = c.args in refused-2 a.shape c.from_residual.result _ c.from_residual.ensures.1 c.in_err-grid.ensures ∙ sym (mass-refused a.shape a.tracer a.i a.j a.field.now _ (total-bad-shape a.shape a.tracer a.field.now c.in_err-grid.ensures.0))
 
 pub returns : goal.returns
-returns c =
-    let a = c.args in
-    ap accepted c.element_mass.ensures ∙ sym (mass-found a.shape a.tracer a.i a.j a.field.now _ (read (goal.at.returns c).In_ok-total) (grid (goal.at.returns c).Else-not-on_grid))
+returns c = let a = c.args in subst (λ g. answers c.mass_on.result (mass_reading quadratic g a.tracer a.i a.j a.field.now)) c.in_ok-grid.ensures.1 c.mass_on.ensures
