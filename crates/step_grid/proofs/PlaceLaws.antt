@@ -9,6 +9,11 @@ use Rattle.rules.specs.Sizes.{most_elements}
 use Rattle.rules.proofs.GridLaws.{west-lt, east-lt, south-lt, north-lt}
 use Rattle.rules.proofs.ShapeLaws.{elements-le}
 use Rattle.step_grid.specs.Place.{Placed}
+use Rattle.step_grid.specs.declared.Element.{Element}
+
+-- an element of the code is on its grid
+pub placed : (x : Element) → Placed x.grid.shape x.index
+placed x = record { admits = x.grid.admitted; inside = x.inside }
 
 -- the owners of an element's four faces: the element, its west neighbour w and its south neighbour s
 pub record FaceOwners (g : Shape) (e w s : ℕ) : Type 0 where
