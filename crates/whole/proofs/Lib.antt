@@ -3,6 +3,7 @@ pub mod Cases
 pub mod WholeLaws
 pub mod SumLaws
 pub mod TableLaws
+pub mod FromFn
 pub mod OverwriteLaws
 pub mod ListParts
 pub mod WrittenLaws

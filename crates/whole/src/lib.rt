@@ -5,6 +5,8 @@ ghost use Rattle.std.specs.Prelude.{◌≡◌, ◌≤◌, ◌<◌, pos, nat_abs,
 ghost use Rattle.whole.specs.Bound.{Within, floor_div};
 ghost use Rattle.whole.specs.Nearest.{nearest_natural};
 
+use std::cmp::Ordering;
+
 // A leaf: x / d for d above 0, rounded toward minus infinity.
 pub fn floor_div(x: i64, d: i64) -> i64
     requires within { Within 4611686018427387904 x }
@@ -12,8 +14,7 @@ pub fn floor_div(x: i64, d: i64) -> i64
     requires within_2 { Within 1048576 d }
     ensures { result ≡ floor_div x (nat_abs d) }
 {
-    let q = x / d;
-    if x % d < 0 { q - 1 } else { q }
+    x.div_euclid(d)
 }
 
 // A leaf: n / d for d above 0, to the nearest whole number, the even one at a half.
@@ -23,12 +24,9 @@ pub fn nearest(n: u64, d: u64) -> u64
     ensures { result ≡ nearest_natural n d }
 {
     let q = n / d;
-    let twice = 2 * (n % d);
-    if twice < d {
-        return q;
+    match (2 * (n % d)).cmp(&d) {
+        Ordering::Less => q,
+        Ordering::Equal => q + q % 2,
+        Ordering::Greater => q + 1,
     }
-    if d < twice {
-        return q + 1;
-    }
-    q + q % 2
 }

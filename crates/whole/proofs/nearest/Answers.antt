@@ -2,11 +2,11 @@ use native.Mathlib.Omega.{arith}
 use Rattle.whole.proofs.NearestLaws.{quotient, one_more, even-one}
 use Rattle.whole.proofs.nearest.Goals as goal
 
-pub returns-then-twice-d : goal.returns-then-twice-d
-returns-then-twice-d c = quotient c.args.n c.args.d c.if-twice-d.true
+pub returns-in-Less : goal.returns-in-Less
+returns-in-Less c = quotient c.args.n c.args.d (grind arith)
 
-pub returns-then-d-twice : goal.returns-then-d-twice
-returns-then-d-twice c = one_more c.args.n c.args.d c.if-d-twice.true
+pub returns-in-Greater : goal.returns-in-Greater
+returns-in-Greater c = one_more c.args.n c.args.d (grind arith)
 
-pub returns : goal.returns
-returns c = even-one c.args.n c.args.d (omega arith) (omega arith)
+pub returns-in-Equal : goal.returns-in-Equal
+returns-in-Equal c = even-one c.args.n c.args.d (grind arith) (grind arith)
