@@ -1,10 +1,19 @@
 -- The sums that the closing's loops keep are within bounds: every term by its value's size and its weight, and nine weights make 36.
-use mathlib.Core.Path.{◌≡◌, refl, sym}
+use mathlib.Core.Path.{◌≡◌, refl, sym, ap, subst, ◌∙◌}
 use mathlib.Core.List.{List}
-use Prim.Native.Nat.{ℕ, ◌+◌, ◌*◌, ◌≤◌, ◌<◌}
+use Prim.Native.Nat.{ℕ, zero, suc, ◌+◌, ◌*◌, ◌≤◌, ◌<◌}
 use native.Mathlib.Nat.{le_trans, mul-le-mul_left, mul-le-mul_right, one-mul}
 use native.Mathlib.Omega.{arith}
-use lib.IntN.{ℤ, pos, ◌+ℤ◌, ◌*ℤ◌}
+use lib.IntN.{ℤ, pos, negsuc, ◌+ℤ◌, ◌*ℤ◌}
+use lib.ListN.{length, take}
+use lib.Seq.{length-take-le, get_or-take}
+use lib.Dec.{ltb, lt→ltb}
+use mir.Syntax.{w64}
+use mir.Val.{to_z, of_z}
+use Rattle.std.specs.Int.{int_max}
+use Rattle.whole.proofs.Cases.{cond_yes}
+use Rattle.whole.proofs.Sizes.{back_is}
+use Rattle.whole.specs.Parts.{positive}
 use Rattle.whole.specs.Table.{at}
 use Rattle.whole.specs.Bound.{Within}
 use Rattle.whole.specs.Sum.{sum, sum_ℤ}
@@ -17,6 +26,21 @@ use Rattle.rules.specs.Sizes.{tentative_size, levelled_size}
 use Rattle.rules.proofs.LimiterLaws.{values-le}
 use Rattle.rules.proofs.QuadraticLaws.{weights-above}
 use Rattle.limiter.specs.Sizes.{Tentative, Shift, shifted}
+
+-- the nine values that are read
+module _ (l : List ℤ) (h : Tentative l) where
+  pub nodes-long : length (take 9 l) ≡ 9
+  nodes-long = length-take-le 9 l h.nine
+
+  pub nodes-at : (k : ℕ) → k < length (take 9 l) → (k < 9) × (at (take 9 l) k ≡ at l k)
+  nodes-at k q = let r : k < 9 = omega (arith, nodes-long) in (r, get_or-take 9 l k (pos 0) r)
+
+  pub nodes-small : (k : ℕ) → k < length (take 9 l) → Within tentative_size (at (take 9 l) k)
+  nodes-small k q = let e = nodes-at k q in subst (Within tentative_size) (sym e.1) (h.small k e.0)
+
+  -- as the machine reads one back
+  pub nodes-back : (k : ℕ) → k < length (take 9 l) → to_z w64 (of_z w64 (at (take 9 l) k)) ≡ at l k
+  nodes-back k q = back_is w64 _ (nodes-small k q) tt ∙ (nodes-at k q).1
 
 -- one term of the signed sum
 abbrev pub term : List ℤ → ℕ → ℤ
@@ -46,11 +70,22 @@ pub weighted-next : (v : ℕ → ℕ) (k w x s : ℕ) → w ≡ quadratic.weight
 weighted-next v k w x s a b c = rw (a, b, c) (sym (sum_more k (λ k. quadratic.weight k * v k)))
 
 -- ---- after levelling and truncation
+pub cut_is : (z : ℤ) → int_max z (pos 0) ≡ pos (positive z)
+unfolding positive
+cut_is (pos zero) = refl
+cut_is (pos (suc n)) = cond_yes (ltb 0 (suc n)) _ _ (lt→ltb 0 (suc n) (omega arith))
+cut_is (negsuc n) = refl
+
 module _ (l : List ℤ) (s : ℤ) where
   abbrev pub cut_value : ℕ → ℕ
   cut_value = truncated (shifted l s)
 
   module _ (h : Tentative l) (b : Shift s) where
+    -- what truncation gives of a value as the machine reads it back
+    pub cut_value-is : (k x : ℕ) → k < length (take 9 l) → x ≡ positive (to_z w64 (of_z w64 (at (take 9 l) k)) +ℤ s) → x ≡ cut_value k
+    unfolding truncated
+    cut_value-is k x q e = e ∙ ap (λ v. positive (v +ℤ s)) (nodes-back l h k q)
+
     pub cut_value-le : (k : ℕ) → k < 9 → cut_value k ≤ levelled_size
     unfolding truncated
     cut_value-le k q = omega (arith, positive-le (at l k +ℤ s), (within-add (h.small k q) b.small).within)

@@ -2,9 +2,10 @@
 // Every function here is a leaf that other crates call with numbers which they have bounded.
 #![tactic(auto)]
 
-ghost use Rattle.std.specs.Prelude.{◌≡◌, ◌*◌, ◌≤◌, ◌<◌, ◌^◌, pos, ◌*ℤ◌, length};
+ghost use Rattle.std.specs.Prelude.{◌≡◌, ◌*◌, ◌≤◌, ◌<◌, ◌^◌, pos, ◌+ℤ◌, ◌*ℤ◌, length};
 ghost use Rattle.whole.specs.Table.{at};
-ghost use Rattle.whole.specs.Bound.{Are};
+ghost use Rattle.whole.specs.Bound.{Within, Are};
+ghost use Rattle.whole.specs.Parts.{positive};
 ghost use Rattle.whole.specs.Sum.{sum_ℤ};
 ghost use Rattle.rules.specs.Field.{quadratic, weighted};
 ghost use Rattle.rules.specs.Limiter.{mean_shift, truncated, rescaled, closed_unlevelled, closed};
@@ -21,9 +22,9 @@ fn weighted_sum(psi: &[i64]) -> i64
     requires { Tentative psi.now }
     ensures { Are (36 * tentative_size) result (sum_ℤ 9 (λ k. pos (quadratic.weight k) *ℤ at psi.now k)) }
 {
-    let mut sum: i64 = 0;
-    for k in 0..NODES {
-        sum += signed_weight(k) * psi[k];
+    let mut sum = 0;
+    for (k, value) in psi[..NODES].iter().enumerate() {
+        sum += signed_weight(k) * value;
     }
     sum
 }
@@ -38,19 +39,14 @@ fn mean_shift(psi: &[i64], target: u64) -> i64
     whole::floor_div((target as i64) - sum, WEIGHT_SUM)
 }
 
-// Value k after levelling and truncation.
-fn truncate(psi: &[i64], k: usize, shift: i64) -> u64
-    requires tentative { Tentative psi.now }
-    requires k_bound { k < 9 }
+// A value after levelling and truncation.
+fn truncate(value: i64, shift: i64) -> u64
+    requires value { Within tentative_size value }
     requires shift { Shift shift }
-    ensures value { result ≡ truncated (shifted psi.now shift) k }
+    ensures value { result ≡ positive (value +ℤ shift) }
     ensures upper_bound { result ≤ levelled_size }
 {
-    let y = psi[k] + shift;
-    if y < 0 {
-        return 0;
-    }
-    y as u64
+    (value + shift).max(0) as u64
 }
 
 // The weighted sum P after levelling and truncation.
@@ -59,10 +55,9 @@ fn truncated_sum(psi: &[i64], shift: i64) -> u64
     requires shift { Shift shift }
     ensures { result ≡ weighted quadratic (truncated (shifted psi.now shift)) }
 {
-    let mut sum: u64 = 0;
-    for k in 0..NODES {
-        let v = truncate(psi, k, shift);
-        sum += node_weight(k) * v;
+    let mut sum = 0;
+    for (k, value) in psi[..NODES].iter().enumerate() {
+        sum += node_weight(k) * truncate(*value, shift);
     }
     sum
 }
@@ -84,10 +79,9 @@ fn close_shifted(part: &mut [u32], psi: &[i64], shift: i64, target: u64)
     ensures { part.new ≡ closed_unlevelled quadratic (shifted psi.now shift) target }
 {
     let p = truncated_sum(psi, shift);
-    let mut sum: u64 = 0;
-    for k in 0..NODES {
-        let v = truncate(psi, k, shift);
-        let y = rescale(p, target, v);
+    let mut sum = 0;
+    for (k, value) in psi[..NODES].iter().enumerate() {
+        let y = rescale(p, target, truncate(*value, shift));
         part[k] = y as u32;
         sum += node_weight(k) * y;
     }
