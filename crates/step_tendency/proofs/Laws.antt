@@ -6,16 +6,16 @@ use mathlib.Core.List.{List, [], ◌∷◌}
 use Prim.Native.Nat.{ℕ, ◌+◌, ◌*◌, ◌-◌, ◌/◌, ◌%◌, ◌^◌, ◌≤◌, ◌<◌}
 use native.Mathlib.Nat.{mod-lt, zero-add}
 use native.Mathlib.Omega.{arith}
-use lib.Dec.{eqb, eqb→eq, leb, leb→le, ltb, ltb→lt}
+use lib.Dec.{eqb, eqb→eq, leb, leb→le}
 use lib.IntN.{ℤ, pos, negsuc, ◌+ℤ◌, ◌-ℤ◌, ◌*ℤ◌, +ℤ_idr}
-use lib.ListN.{length, get_or, get_or-map}
+use lib.ListN.{get_or, get_or-map}
 use Rattle.whole.specs.Bound.{Within, AllWithin, floor_div}
 use Rattle.whole.specs.Sum.{sum, sum_ℤ, all}
-use Rattle.whole.specs.Table.{table, blocks, at}
+use Rattle.whole.specs.Table.{table, at}
 use Rattle.whole.proofs.Cases.{cond_no, ne→neqb}
 use Rattle.whole.proofs.BoundLaws.{within-le, within-mul, within-pos, within-sum}
 use Rattle.whole.proofs.SumLaws.{sum_mono, sum_ℤ-cong, all-at}
-use Rattle.whole.proofs.TableLaws.{length-table, get_d-table, table-all, table-cong, blocks-table}
+use Rattle.whole.proofs.TableLaws.{get_d-table, table-all, table-cong}
 use Rattle.whole.proofs.Sizes.{peak-at}
 use Rattle.rules.specs.Field.{quadratic}
 use Rattle.rules.specs.Stages.{place_wind, advection}
@@ -23,7 +23,7 @@ use Rattle.rules.proofs.StageBounds.{quadratic-bounded, place_wind-within, line_
 use Rattle.rules.proofs.QuadraticLaws.{line-weight-le}
 use Rattle.rules.specs.Sizes.{stage_size}
 use Rattle.step_tendency.specs.Sizes.{place_wind_size, line_sum_size, advection_size}
-use Rattle.step_tendency.specs.Line.{weighed_wind, along_line, with_ends, line_at, line_nodes, local_tendency}
+use Rattle.step_tendency.specs.Line.{weighed_wind, along_line, with_ends, line_at, line_nodes, shifts, combined, local_tendency}
 
 -- ---- the code's tables
 abbrev pub west_shares : List ℤ
@@ -34,9 +34,6 @@ east_shares = pos 0 ∷ pos 1 ∷ pos 2 ∷ []
 
 abbrev pub derivatives : List ℤ
 derivatives = negsuc 2 ∷ pos 4 ∷ negsuc 0 ∷ negsuc 0 ∷ pos 0 ∷ pos 1 ∷ pos 1 ∷ negsuc 3 ∷ pos 3 ∷ []
-
-abbrev pub shifts : List ℕ
-shifts = 13 ∷ 15 ∷ 13 ∷ 15 ∷ 17 ∷ 15 ∷ 13 ∷ 15 ∷ 13 ∷ []
 
 pub west-is : (q : ℕ) → get_or west_shares q (pos 0) ≡ pos (quadratic.west_share q)
 unfolding quadratic
@@ -94,20 +91,6 @@ unfolding advection quadratic
 line-is v start stride cw ce uw ue a = ap (λ s. with_ends s a (pos 12 *ℤ cw *ℤ uw) (pos 12 *ℤ ce *ℤ ue))
     (sum_ℤ-cong 3 _ _ (λ q h. ap (λ c. c *ℤ at v (start + stride * q) *ℤ quadratic.derivative q a) (get_d-table 3 (weighed_wind cw ce) q (pos 0) h)))
 
-module _ (c v : List ℤ) (cw ce : ℤ) (u : List ℤ) (side step stride : ℕ) where
-  -- what a turn of the loop over the lines stores
-  abbrev pub line_row : ℕ → List ℤ
-  line_row b = table 3 (line_at c v (step * b) stride (pos 12 *ℤ cw *ℤ at u (side + b)) (pos 12 *ℤ ce *ℤ at u (side + 3 + b)))
-
-  pub line_row-length : (b : ℕ) → length (line_row b) ≡ 3
-  line_row-length b = length-table 3 _
-
-pub rows_are : (v : List ℤ) (cw ce : ℤ) (u : List ℤ) (side step stride : ℕ) → blocks 3 (line_row (table 3 (weighed_wind cw ce)) v cw ce u side step stride) ≡ table 9 (line_nodes v cw ce u side step stride)
-unfolding line_nodes
-rows_are v cw ce u side step stride =
-    blocks-table 3 (λ b. line_at (table 3 (weighed_wind cw ce)) v (step * b) stride (pos 12 *ℤ cw *ℤ at u (side + b)) (pos 12 *ℤ ce *ℤ at u (side + 3 + b))) (omega arith) 3
-    ∙ table-cong 9 _ _ (λ i _. line-is v (step * (i / 3)) stride cw ce (at u (side + i / 3)) (at u (side + 3 + i / 3)) (i % 3))
-
 -- X (or Y) is not too large: 114688 times the largest value at most
 pub nodes-within : (v : List ℤ) (cw ce : ℤ) (u : List ℤ) (side step stride : ℕ) → AllWithin stage_size v → Within 1024 cw → Within 1024 ce → AllWithin stage_size u
     → AllWithin advection_size (table 9 (line_nodes v cw ce u side step stride))
@@ -122,18 +105,10 @@ nodes-within v cw ce u side step stride hv hw he hu = record { all = table-all (
         (omega (arith, leb→le (line_bound quadratic (k % 3)) 114688 (all-at 3 (λ a. leb (line_bound quadratic a) 114688) tt (k % 3) a)))
 
 -- ---- the tendency at a node, from X and Y at every node
-module _ (x y : List ℤ) where
-  abbrev pub combined : ℕ → ℤ
-  combined k = floor_div (pos (quadratic.line_weight (k / 3)) *ℤ at x k +ℤ pos (quadratic.line_weight (k % 3)) *ℤ at y (3 * (k % 3) + k / 3)) (2 ^ get_or shifts k 0)
-
 -- 8192 times a node's weight is a power of 2
 pub shift_is : (k : ℕ) → k < 9 → 2 ^ get_or shifts k 0 ≡ 8192 * (quadratic.line_weight (k % 3) * quadratic.line_weight (k / 3))
 unfolding quadratic all
 shift_is k h = eqb→eq _ _ (all-at 9 (λ k. eqb (2 ^ get_or shifts k 0) (8192 * (quadratic.line_weight (k % 3) * quadratic.line_weight (k / 3)))) tt k h)
-
-pub shift-lt : (k : ℕ) → k < 9 → get_or shifts k 0 < 64
-unfolding all
-shift-lt k h = ltb→lt _ 64 (all-at 9 (λ k. ltb (get_or shifts k 0) 64) tt k h)
 
 -- node (a, b) stands at 3 a + b among the lines that go the other way
 turned : (k : ℕ) → k < 9 → (3 * (k % 3) + k / 3 < 9) × ((3 * (k % 3) + k / 3) / 3 ≡ k % 3) × ((3 * (k % 3) + k / 3) % 3 ≡ k / 3)

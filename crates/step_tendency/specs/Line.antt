@@ -1,5 +1,5 @@
 -- Document 01, "Tendency", of one element, by its own values, the winds of its four faces and the upwind values there.
-use Rattle.std.specs.Prelude.{cond, List, ℕ, ◌+◌, ◌*◌, ◌/◌, ◌%◌, eqb, ℤ, pos, ◌+ℤ◌, ◌-ℤ◌, ◌*ℤ◌}
+use Rattle.std.specs.Prelude.{cond, List, [], ◌∷◌, ℕ, ◌+◌, ◌*◌, ◌/◌, ◌%◌, ◌^◌, eqb, get_or, ℤ, pos, ◌+ℤ◌, ◌-ℤ◌, ◌*ℤ◌}
 use Rattle.whole.specs.Table.{at}
 use Rattle.whole.specs.Bound.{floor_div}
 use Rattle.whole.specs.Sum.{sum_ℤ}
@@ -38,3 +38,11 @@ local_tendency v c u k =
     let ω = quadratic.line_weight in
     floor_div (pos (ω b) *ℤ advection quadratic (λ q. v (node quadratic q b)) (c 0) (c 1) (u b) (u (3 + b)) a
     +ℤ pos (ω a) *ℤ advection quadratic (λ q. v (node quadratic a q)) (c 2) (c 3) (u (6 + a)) (u (9 + a)) b) (8192 * (ω a * ω b))
+
+-- 8192 times a node's weight is 2 to this power
+abbrev pub shifts : List ℕ
+shifts = 13 ∷ 15 ∷ 13 ∷ 15 ∷ 17 ∷ 15 ∷ 13 ∷ 15 ∷ 13 ∷ []
+
+-- the tendency at node k, from X and Y at every node
+abbrev pub combined : List ℤ → List ℤ → ℕ → ℤ
+combined x y k = floor_div (pos (quadratic.line_weight (k / 3)) *ℤ at x k +ℤ pos (quadratic.line_weight (k % 3)) *ℤ at y (3 * (k % 3) + k / 3)) (2 ^ get_or shifts k 0)

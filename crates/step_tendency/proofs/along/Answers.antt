@@ -1,22 +1,14 @@
 use mathlib.Core.Path.{◌≡◌, refl, sym, ◌∙◌}
-use Prim.Native.Nat.{◌≤◌, ◌*◌}
-use borrow.Author.Rules.{rules}
 use native.Mathlib.Omega.{arith}
-use native.Mathlib.Nat.{mul-le-mul_left}
 use Rattle.whole.specs.Sum.{sum_ℤ}
 use Rattle.whole.proofs.SumLaws.{sum_ℤ-more}
 use Rattle.whole.proofs.Sizes.{sizes, exacts, fits, exact, are-eq}
 use Rattle.step_tendency.proofs.Laws.{term, terms-are, terms-within}
 use Rattle.step_tendency.proofs.along.Goals as goal
-use Rattle.step_tendency.proofs.along.Goals.{After-x-1}
 
 pub loop-q-init : goal.loop-q-init
 unfolding sum_ℤ
 loop-q-init c = (omega arith, record { same = refl; bound = record { within = omega arith } })
-
--- a line's places are within the element
-reach : (c : After-x-1) → c.args.stride * c.loop-q.q ≤ c.args.stride * 2
-reach c = mul-le-mul_left c.args.stride (omega arith)
 
 pub overflow_mul-x-in-loop-q : goal.overflow_mul-x-in-loop-q
 overflow_mul-x-in-loop-q c = let h = c.requires in fits (search sizes depth 20) tt
@@ -33,19 +25,7 @@ loop-q-preserved c =
     let s = c.loop-q.invariant.1 in
     let q = c.loop-q.q in
     let a = c.args in
-    (omega arith, record { same = exact (search exacts depth 20) tt ∙ sym (sum_ℤ-more q (term a.c.now a.v.now a.start a.stride a.place)); bound = terms-within a.c.now a.v.now a.start a.stride a.place _ h.all_within h.all_within_2 (omega arith) })
+    (omega arith, record { same = exact (search exacts depth 20) tt ∙ sym (sum_ℤ-more q (term a.c.now a.v.now a.line.start a.line.stride a.place)); bound = terms-within a.c.now a.v.now a.line.start a.line.stride a.place _ h.all_within h.all_within_2 (omega arith) })
 
 pub returns : goal.returns
-returns c = let a = c.args in let e : c.loop-q.q ≡ 3 = omega arith in are-eq (rw e at c.loop-q.invariant.1) (terms-are a.c.now a.v.now a.start a.stride a.place)
-
-pub overflow_mul-x : goal.overflow_mul-x
-overflow_mul-x c = let h = reach (goal.at.overflow_mul-x c).After-x-1 in search rules
-
-pub overflow_add-x : goal.overflow_add-x
-overflow_add-x c = let h = reach (goal.at.overflow_add-x c).After-x-1 in search rules
-
-pub offset_bounds-v-start : goal.offset_bounds-v-start
-offset_bounds-v-start c = let h = reach (goal.at.offset_bounds-v-start c).After-x-1 in search rules
-
-pub bounds-v-start : goal.bounds-v-start
-bounds-v-start c = let h = reach (goal.at.bounds-v-start c).After-x-1 in search rules
+returns c = let a = c.args in let e : c.loop-q.q ≡ 3 = omega arith in are-eq (rw e at c.loop-q.invariant.1) (terms-are a.c.now a.v.now a.line.start a.line.stride a.place)

@@ -7,4 +7,4 @@ use Rattle.step_tendency.specs.Sizes.{line_sum_size}
 use Rattle.step_tendency.proofs.along.Given as goal
 
 abbrev pub invariant-loop-q : goal.invariant-loop-q
-invariant-loop-q l = (l.q ≤ 3) × Are line_sum_size l.x (sum_ℤ l.q (term l.c l.v l.start l.stride l.place))
+invariant-loop-q l = (l.q ≤ 3) × Are line_sum_size l.x (sum_ℤ l.q (term l.c l.v l.line.start l.line.stride l.place))
