@@ -2,12 +2,9 @@
 -- each of the four sides is shown side by side.
 use mathlib.Core.Path.{◌≡◌, refl, sym, ap, subst, ◌∙◌}
 use mathlib.Core.Bool.{Bool, cond}
-use Prim.Native.Nat.{ℕ, zero, suc, ◌+◌, ◌*◌, ◌-◌, ◌/◌, ◌<◌}
+use Prim.Native.Nat.{ℕ, zero, suc, ◌+◌, ◌*◌, ◌<◌}
 use native.Mathlib.Nat.{one-mul}
 use native.Mathlib.Omega.{arith}
-use lib.Dec.{eqb, eqb→eq}
-use Rattle.whole.specs.Sum.{all}
-use Rattle.whole.proofs.SumLaws.{all-at}
 use lib.IntN.{ℤ, pos, negsuc, neg_ℤ, ◌+ℤ◌, ◌-ℤ◌, ◌*ℤ◌}
 use lib.ListN.{get_or}
 use lib.Signed.{non_neg, le_z}
@@ -23,7 +20,7 @@ use Rattle.rules.specs.declared.Shape.{Shape}
 use Rattle.rules.specs.Field.{elements}
 use Rattle.rules.specs.Sizes.{most_elements}
 use Rattle.step_grid.specs.Place.{Placed}
-use Rattle.step_upwind.specs.Upwind.{sign, behinds, aheads, lasts, strides, upwind_start}
+use Rattle.step_upwind.specs.Upwind.{sign, behinds, aheads, upwind_start}
 use Rattle.step_grid.proofs.PlaceLaws.{west-in, east-in, south-in, north-in}
 
 -- ---- where a face's values begin, by the sign of its wind
@@ -95,18 +92,3 @@ module _ (g : Shape) (e : ℕ) (h : Placed g e) where
   pub ahead-inside : (s : ℕ) → s < 4 → get_or (aheads g e) s 0 < elements g
   ahead-inside = four (λ s. get_or (aheads g e) s 0 < elements g)
       h.inside (east-in h) h.inside (north-in h)
-
-pub last-lt : (s : ℕ) → get_or lasts s 0 < 9
-last-lt zero = omega arith
-last-lt (suc zero) = omega arith
-last-lt (suc (suc zero)) = omega arith
-last-lt (suc (suc (suc zero))) = omega arith
-last-lt (suc (suc (suc (suc s)))) = omega arith
-
--- the step along the line of upwind value m, as the code computes it
-abbrev pub stride : ℕ → ℕ
-stride m = 3 - 2 * (m / 3 / 2)
-
-pub stride-is : (m : ℕ) → m < 12 → stride m ≡ get_or strides (m / 3) 0
-unfolding all
-stride-is m h = eqb→eq (stride m) (get_or strides (m / 3) 0) (all-at 12 (λ m. eqb (stride m) (get_or strides (m / 3) 0)) tt m h)

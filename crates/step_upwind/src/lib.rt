@@ -15,15 +15,13 @@ ghost use Rattle.step_upwind.specs.Upwind.{as_stage, WindsInRange, side_winds, s
 
 use rules::Shape;
 use rules::element::{NODES, SIDE};
+use std::array;
 use step_tendency::UPWIND_VALUES;
 
 // The first node of the line at an element's east side, which goes on by SIDE, and of the line at its north side, which goes on by 1.
 pub const EAST_LINE: usize = SIDE - 1;
 
 pub const NORTH_LINE: usize = NODES - SIDE;
-
-// Where an upwind line begins in the element behind a face: the lines of the west, the east, the south and the north side.
-const LAST: [usize; 4] = [EAST_LINE, EAST_LINE, NORTH_LINE, NORTH_LINE];
 
 // The winds of an element's west, east, south and north face.
 fn side_winds(wind: &[i16], shape: Shape, e: usize) -> [i64; 4]
@@ -36,10 +34,10 @@ fn side_winds(wind: &[i16], shape: Shape, e: usize) -> [i64; 4]
     let south = n + step_grid::south(shape, e);
     let north = n + e;
     [
-        wind[west] as i64,
-        wind[e] as i64,
-        wind[south] as i64,
-        wind[north] as i64,
+        i64::from(wind[west]),
+        i64::from(wind[e]),
+        i64::from(wind[south]),
+        i64::from(wind[north]),
     ]
 }
 
@@ -63,7 +61,7 @@ pub fn upwind_start(c: i64, behind: usize, ahead: usize, last: usize) -> usize
     (in_behind + sign(c) * (in_behind - in_ahead)) as usize
 }
 
-// The same for an element's four sides.
+// The same for an element's west, east, south and north side.
 fn starts(c: &[i64; 4], shape: Shape, e: usize) -> [usize; 4]
     requires { Placed shape e }
     ensures { result ≡ table 4 (side_start shape c.now e) }
@@ -72,29 +70,32 @@ fn starts(c: &[i64; 4], shape: Shape, e: usize) -> [usize; 4]
     let east = step_grid::east(shape, e);
     let south = step_grid::south(shape, e);
     let north = step_grid::north(shape, e);
-    let behind = [west, e, south, e];
-    let ahead = [e, east, e, north];
-    let mut s = [0usize; 4];
-    for side in 0..4 {
-        s[side] = upwind_start(c[side], behind[side], ahead[side], LAST[side]);
-    }
-    s
+    [
+        upwind_start(c[0], west, e, EAST_LINE),
+        upwind_start(c[1], e, east, EAST_LINE),
+        upwind_start(c[2], south, e, NORTH_LINE),
+        upwind_start(c[3], e, north, NORTH_LINE),
+    ]
 }
 
-// The upwind values of the four sides. A line goes on by SIDE at the west and the east side, by 1 at the others; a table of these
-// steps would be laid on the stack at every turn.
+// Upwind value m of the four sides, three for each. A line goes on by SIDE at the west and the east side, by 1 at the others; a table
+// of these steps would be laid on the stack at every turn.
+fn upwind_value(phi: &[i64], starts: &[usize; 4], m: usize) -> i64
+    requires reached { Reached starts.now phi.now }
+    requires m_bound { m < 12 }
+    ensures { result ≡ at phi.now (upwind_place starts.now m) }
+{
+    let side = m / SIDE;
+    let stride = SIDE - (SIDE - 1) * (side / 2);
+    phi[starts[side] + stride * (m % SIDE)]
+}
+
+// All of them.
 fn upwind_values(phi: &[i64], starts: &[usize; 4]) -> [i64; UPWIND_VALUES]
     requires { Reached starts.now phi.now }
     ensures { result ≡ table 12 (λ m. at phi.now (upwind_place starts.now m)) }
 {
-    let mut u = [0i64; UPWIND_VALUES];
-    for m in 0..UPWIND_VALUES {
-        let side = m / SIDE;
-        let stride = SIDE - (SIDE - 1) * (side / 2);
-        let place = starts[side] + stride * (m % SIDE);
-        u[m] = phi[place];
-    }
-    u
+    array::from_fn(|m| upwind_value(phi, starts, m))
 }
 
 // An element's nine values.
@@ -102,11 +103,7 @@ fn values(phi: &[i64], start: usize) -> [i64; NODES]
     requires { start + 9 ≤ length phi.now }
     ensures { result ≡ table 9 (λ k. at phi.now (start + k)) }
 {
-    let mut v = [0i64; NODES];
-    for k in 0..NODES {
-        v[k] = phi[start + k];
-    }
-    v
+    array::from_fn(|k| phi[start + k])
 }
 
 // The tendencies of element e of a stage.

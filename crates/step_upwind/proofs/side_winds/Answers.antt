@@ -4,7 +4,10 @@ use mathlib.Core.List.{[], ◌∷◌}
 use Prim.Native.Nat.{◌+◌, ◌*◌}
 use borrow.Author.Rules.{rules}
 use native.Mathlib.Omega.{arith}
-use Rattle.whole.proofs.Sizes.{sizes-wide, fits, widened}
+use lib.IntN.{ℤ}
+use mir.Syntax.{w64}
+use mir.Val.{to_z, of_z}
+use Rattle.whole.proofs.Sizes.{widened}
 use Rattle.rules.specs.Calls.{wind_at}
 use Rattle.rules.proofs.ShapeLaws.{elements-le}
 use Rattle.step_grid.proofs.PlaceLaws.{FaceOwners, face-owners}
@@ -21,33 +24,26 @@ inside c = face-owners c.requires.placed c.west-west.ensures c.south.ensures
 pub bounds-wind-west : goal.bounds-wind-west
 bounds-wind-west c = omega (arith, inside (goal.at.bounds-wind-west c).After-south, c.requires.winds_in_range.long)
 
-pub overflow_cast-result : goal.overflow_cast-result
-overflow_cast-result c = let h = c.result-1.given in fits (search sizes-wide depth 20) tt
-
 pub bounds-wind-e : goal.bounds-wind-e
 bounds-wind-e c = omega (arith, c.requires.placed.inside, c.requires.winds_in_range.long)
-
-pub overflow_cast-result-2 : goal.overflow_cast-result-2
-overflow_cast-result-2 c = let h = c.result-2-1.given in fits (search sizes-wide depth 20) tt
 
 pub bounds-wind-south : goal.bounds-wind-south
 bounds-wind-south c = omega (arith, inside (goal.at.bounds-wind-south c).After-south, c.requires.winds_in_range.long)
 
-pub overflow_cast-result-3 : goal.overflow_cast-result-3
-overflow_cast-result-3 c = let h = c.result-3-1.given in fits (search sizes-wide depth 20) tt
-
 pub bounds-wind-north : goal.bounds-wind-north
 bounds-wind-north c = omega (arith, c.requires.placed.inside, c.requires.winds_in_range.long)
-
-pub overflow_cast-result-4 : goal.overflow_cast-result-4
-overflow_cast-result-4 c = let h = c.result-4-1.given in fits (search sizes-wide depth 20) tt
 
 pub returns : goal.returns
 returns c =
     let a = c.args in
     let w = wind_at a.wind.now in
     let n = a.shape.nx * a.shape.ny in
-    λ i. (widened _ c.result-1.given ∙ ap w c.west-west.ensures) i ∷ widened (w a.e) c.result-2-1.given i ∷ (widened _ c.result-3-1.given ∙ ap (λ x. w (n + x)) c.south.ensures) i ∷ widened (w (n + a.e)) c.result-4-1.given i ∷ []
+    let read = λ (z : ℤ). to_z w64 (of_z w64 z) in
+    λ i.
+    (ap read c.from.ensures ∙ widened _ c.from-arg-1.given ∙ ap w c.west-west.ensures) i
+    ∷ (ap read c.from-2.ensures ∙ widened (w a.e) c.from-arg-2-1.given) i
+    ∷ (ap read c.from-3.ensures ∙ widened _ c.from-arg-3-1.given ∙ ap (λ x. w (n + x)) c.south.ensures) i
+    ∷ (ap read c.from-4.ensures ∙ widened (w (n + a.e)) c.from-arg-4-1.given) i ∷ []
 
 pub overflow_add-south : goal.overflow_add-south
 overflow_add-south c = let h = inside (goal.at.overflow_add-south c).After-south in search rules

@@ -1,46 +1,40 @@
-use mathlib.Core.Path.{◌≡◌, refl, sym, ap, subst, ◌∙◌}
-use mathlib.Core.List.{List, [], ◌∷◌, append-nil}
-use Prim.Native.Nat.{ℕ, ◌<◌}
+-- The elements behind and ahead are on the grid, and each of the four lines begins where its face's wind says.
+use mathlib.Core.Path.{◌≡◌, refl, ◌∙◌}
+use mathlib.Core.List.{[], ◌∷◌}
+use Prim.Native.Nat.{ℕ, ◌^◌, ◌<◌}
 use native.Mathlib.Omega.{arith}
-use lib.ListN.{get_or, length-set}
+use lib.IntN.{ℤ}
+use lib.Signed.{mag}
 use mir.Syntax.{w64}
+use mir.Val.{to_z, of_z}
 use mir.Facts.{to_z-of_z}
-use Rattle.whole.specs.Table.{table, at}
-use Rattle.whole.proofs.TableLaws.{fill-next}
-use Rattle.step_upwind.specs.Upwind.{behinds, aheads, lasts, upwind_start}
-use Rattle.step_upwind.proofs.Laws.{behind-inside, ahead-inside, last-lt}
+use Rattle.whole.specs.Table.{table}
 use Rattle.rules.proofs.ShapeLaws.{elements-le}
-use Rattle.rules.specs.Sizes.{most_elements}
+use Rattle.step_grid.proofs.PlaceLaws.{west-in, east-in, south-in, north-in}
+use Rattle.step_upwind.specs.Upwind.{upwind_start}
 use Rattle.step_upwind.proofs.starts.Goals as goal
-use Rattle.step_upwind.proofs.starts.Goals.{After-north-north}
 
-pub loop-side-init : goal.loop-side-init
-unfolding table
-loop-side-init c = (omega arith, refl, refl)
+pub upwind_start-requires-clause-behind_lt_most_elements : goal.upwind_start-requires-clause-behind_lt_most_elements
+upwind_start-requires-clause-behind_lt_most_elements c = omega (arith, c.west-west.ensures, west-in c.requires, elements-le c.args.shape c.requires.admits)
 
--- the arrays of the elements behind and ahead
-behind-is : (c : After-north-north) → (c.west-west.result ∷ c.args.e ∷ c.south-south.result ∷ c.args.e ∷ []) ≡ behinds c.args.shape c.args.e
-behind-is c = λ i. c.west-west.ensures i ∷ c.args.e ∷ c.south-south.ensures i ∷ c.args.e ∷ []
+pub upwind_start-requires-2-clause-ahead_lt_most_elements : goal.upwind_start-requires-2-clause-ahead_lt_most_elements
+upwind_start-requires-2-clause-ahead_lt_most_elements c = omega (arith, c.east-east.ensures, east-in c.requires, elements-le c.args.shape c.requires.admits)
 
-ahead-is : (c : After-north-north) → (c.args.e ∷ c.east-east.result ∷ c.args.e ∷ c.north-north.result ∷ []) ≡ aheads c.args.shape c.args.e
-ahead-is c = λ i. c.args.e ∷ c.east-east.ensures i ∷ c.args.e ∷ c.north-north.ensures i ∷ []
+pub upwind_start-requires-3-clause-behind_lt_most_elements : goal.upwind_start-requires-3-clause-behind_lt_most_elements
+upwind_start-requires-3-clause-behind_lt_most_elements c = omega (arith, c.south-south.ensures, south-in c.requires, elements-le c.args.shape c.requires.admits)
 
-pub upwind_start-requires : goal.upwind_start-requires
-upwind_start-requires c =
-    let s = c.loop-side.side in
-    let small = elements-le c.args.shape c.requires.admits in record { behind_lt_most_elements = subst (λ (l : List ℕ). get_or l s 0 < most_elements) (sym (behind-is (goal.at.upwind_start-requires c).After-north-north)) (omega (arith, small, behind-inside c.args.shape c.args.e c.requires s (omega arith))); ahead_lt_most_elements = subst (λ (l : List ℕ). get_or l s 0 < most_elements) (sym (ahead-is (goal.at.upwind_start-requires c).After-north-north)) (omega (arith, small, ahead-inside c.args.shape c.args.e c.requires s (omega arith))); last_bound = last-lt s }
+pub upwind_start-requires-4-clause-ahead_lt_most_elements : goal.upwind_start-requires-4-clause-ahead_lt_most_elements
+upwind_start-requires-4-clause-ahead_lt_most_elements c = omega (arith, c.north-north.ensures, north-in c.requires, elements-le c.args.shape c.requires.admits)
 
-pub loop-side-preserved : goal.loop-side-preserved
-loop-side-preserved c =
-    let l = c.loop-side in
-    let a = c.args in
-    let s = l.side in
-    let behind : List ℕ = c.west-west.result ∷ a.e ∷ c.south-south.result ∷ a.e ∷ [] in
-    let ahead : List ℕ = a.e ∷ c.east-east.result ∷ a.e ∷ c.north-north.result ∷ [] in
-    (omega arith, rw length-set l.invariant.1, fill-next l.side _ _ _ _ l.invariant.2 (omega arith) (c.upwind_start.ensures ∙ ap (λ z. upwind_start z (get_or behind s 0) (get_or ahead s 0) (get_or lasts s 0)) (to_z-of_z {w = w64} (record { sfits = c.upwind_start-arg-1.given }))))
+-- a start by the wind and the elements that the rules name
+start_is : (x : ℕ) (v : ℤ) (b b' a a' l : ℕ) → x ≡ upwind_start (to_z w64 (of_z w64 v)) b a l → mag v < 2 ^ 63 → b ≡ b' → a ≡ a' → x ≡ upwind_start v b' a' l
+start_is x v b b' a a' l e h p q = e ∙ (λ i. upwind_start (to_z-of_z {w = w64} {z = v} (record { sfits = h }) i) (p i) (q i) l)
 
 pub returns : goal.returns
+unfolding table
 returns c =
-    let a = c.args in
-    let e : c.loop-side.side ≡ 4 = omega arith in
-    (rw e at c.loop-side.invariant.2) ∙ append-nil _ ∙ (λ i. table 4 (λ s. upwind_start (at a.c.now s) (get_or (behind-is (goal.at.returns c).After-north-north i) s 0) (get_or (ahead-is (goal.at.returns c).After-north-north i) s 0) (get_or lasts s 0)))
+    let west = start_is _ _ _ _ _ _ _ c.upwind_start.ensures c.upwind_start-arg-1.given c.west-west.ensures refl in
+    let east = start_is _ _ _ _ _ _ _ c.upwind_start-2.ensures c.upwind_start-arg-2-1.given refl c.east-east.ensures in
+    let south = start_is _ _ _ _ _ _ _ c.upwind_start-3.ensures c.upwind_start-arg-3-1.given c.south-south.ensures refl in
+    let north = start_is _ _ _ _ _ _ _ c.upwind_start-4.ensures c.upwind_start-arg-4-1.given refl c.north-north.ensures in
+    λ i. west i ∷ east i ∷ south i ∷ north i ∷ []
