@@ -9,13 +9,12 @@ ghost use Rattle.rules.specs.Field.{quadratic};
 ghost use Rattle.rules.specs.Sizes.{most_elements, stage_size};
 ghost use Rattle.rules.specs.Stages.{tendency};
 ghost use Rattle.rules.specs.Calls.{wind_at};
-ghost use Rattle.step_grid.specs.Place.{Placed};
 ghost use Rattle.step_layout.specs.Sections.{stage_length};
 ghost use Rattle.step_upwind.specs.Upwind.{as_stage, WindsInRange, side_winds, sign, upwind_start, side_start, upwind_place, Reached};
 
-use rules::Shape;
 use rules::element::{NODES, SIDE};
 use std::array;
+use step_grid::Element;
 use step_tendency::UPWIND_VALUES;
 
 // The first node of the line at an element's east side, which goes on by SIDE, and of the line at its north side, which goes on by 1.
@@ -24,14 +23,14 @@ pub const EAST_LINE: usize = SIDE - 1;
 pub const NORTH_LINE: usize = NODES - SIDE;
 
 // The winds of an element's west, east, south and north face.
-fn side_winds(wind: &[i16], shape: Shape, e: usize) -> [i64; 4]
-    requires placed { Placed shape e }
-    requires winds_in_range { WindsInRange shape wind.now }
-    ensures { result ≡ side_winds shape (wind_at wind.now) e }
+fn side_winds(wind: &[i16], element: Element) -> [i64; 4]
+    requires { WindsInRange element.grid.shape wind.now }
+    ensures { result ≡ side_winds element.grid.shape (wind_at wind.now) element.index }
 {
-    let n = shape.nx * shape.ny;
-    let west = step_grid::west(shape, e);
-    let south = n + step_grid::south(shape, e);
+    let n = element.grid.elements();
+    let e = element.index;
+    let west = element.west();
+    let south = n + element.south();
     let north = n + e;
     [
         i64::from(wind[west]),
@@ -62,14 +61,14 @@ pub fn upwind_start(c: i64, behind: usize, ahead: usize, last: usize) -> usize
 }
 
 // The same for an element's west, east, south and north side.
-fn starts(c: &[i64; 4], shape: Shape, e: usize) -> [usize; 4]
-    requires { Placed shape e }
-    ensures { result ≡ table 4 (side_start shape c.now e) }
+fn starts(c: &[i64; 4], element: Element) -> [usize; 4]
+    ensures { result ≡ table 4 (side_start element.grid.shape c.now element.index) }
 {
-    let west = step_grid::west(shape, e);
-    let east = step_grid::east(shape, e);
-    let south = step_grid::south(shape, e);
-    let north = step_grid::north(shape, e);
+    let e = element.index;
+    let west = element.west();
+    let east = element.east();
+    let south = element.south();
+    let north = element.north();
     [
         upwind_start(c[0], west, e, EAST_LINE),
         upwind_start(c[1], e, east, EAST_LINE),
@@ -106,17 +105,16 @@ fn values(phi: &[i64], start: usize) -> [i64; NODES]
     array::from_fn(|k| phi[start + k])
 }
 
-// The tendencies of element e of a stage.
-pub fn tendencies(phi: &[i64], wind: &[i16], shape: Shape, e: usize) -> [i64; NODES]
-    requires placed { Placed shape e }
-    requires phi_len { length phi.now ≡ stage_length shape }
+// The tendencies of an element of a stage.
+pub fn tendencies(phi: &[i64], wind: &[i16], element: Element) -> [i64; NODES]
+    requires phi_len { length phi.now ≡ stage_length element.grid.shape }
     requires all_within { AllWithin stage_size phi.now }
-    requires winds_in_range { WindsInRange shape wind.now }
-    ensures { result ≡ table 9 (tendency quadratic shape (wind_at wind.now) (as_stage phi.now) e) }
+    requires winds_in_range { WindsInRange element.grid.shape wind.now }
+    ensures { result ≡ table 9 (tendency quadratic element.grid.shape (wind_at wind.now) (as_stage phi.now) element.index) }
 {
-    let c = side_winds(wind, shape, e);
-    let s = starts(&c, shape, e);
+    let c = side_winds(wind, element);
+    let s = starts(&c, element);
     let u = upwind_values(phi, &s);
-    let v = values(phi, e * NODES);
+    let v = values(phi, element.index * NODES);
     step_tendency::tendencies(&v, &c, &u)
 }

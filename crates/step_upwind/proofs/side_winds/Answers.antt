@@ -9,41 +9,37 @@ use mir.Syntax.{w64}
 use mir.Val.{to_z, of_z}
 use Rattle.whole.proofs.Sizes.{widened}
 use Rattle.rules.specs.Calls.{wind_at}
-use Rattle.rules.proofs.ShapeLaws.{elements-le}
-use Rattle.step_grid.proofs.PlaceLaws.{FaceOwners, face-owners}
+use Rattle.step_grid.proofs.PlaceLaws.{placed, FaceOwners, face-owners}
 use Rattle.step_upwind.proofs.side_winds.Goals as goal
 use Rattle.step_upwind.proofs.side_winds.Goals.{After-south}
 
-pub overflow_mul-n : goal.overflow_mul-n
-overflow_mul-n c = record { fits = omega (arith, elements-le c.args.shape c.requires.placed.admits) }
-
 -- the four faces are there
-inside : (c : After-south) → FaceOwners c.args.shape c.args.e c.west-west.result c.south.result
-inside c = face-owners c.requires.placed c.west-west.ensures c.south.ensures
+inside : (c : After-south) → FaceOwners c.args.element.grid.shape c.args.element.index c.west-west.result c.south.result
+inside c = face-owners (placed c.args.element) c.west-west.ensures c.south.ensures
 
 pub bounds-wind-west : goal.bounds-wind-west
-bounds-wind-west c = omega (arith, inside (goal.at.bounds-wind-west c).After-south, c.requires.winds_in_range.long)
+bounds-wind-west c = omega (arith, inside (goal.at.bounds-wind-west c).After-south, c.requires.long)
 
 pub bounds-wind-e : goal.bounds-wind-e
-bounds-wind-e c = omega (arith, c.requires.placed.inside, c.requires.winds_in_range.long)
+bounds-wind-e c = omega (arith, c.args.element.inside, c.requires.long)
 
 pub bounds-wind-south : goal.bounds-wind-south
-bounds-wind-south c = omega (arith, inside (goal.at.bounds-wind-south c).After-south, c.requires.winds_in_range.long)
+bounds-wind-south c = omega (arith, inside (goal.at.bounds-wind-south c).After-south, c.elements-n.ensures, c.requires.long)
 
 pub bounds-wind-north : goal.bounds-wind-north
-bounds-wind-north c = omega (arith, c.requires.placed.inside, c.requires.winds_in_range.long)
+bounds-wind-north c = omega (arith, c.args.element.inside, c.elements-n.ensures, c.requires.long)
 
 pub returns : goal.returns
 returns c =
     let a = c.args in
     let w = wind_at a.wind.now in
-    let n = a.shape.nx * a.shape.ny in
+    let n = c.elements-n.result in
     let read = λ (z : ℤ). to_z w64 (of_z w64 z) in
     λ i.
     (ap read c.from.ensures ∙ widened _ c.from-arg-1.given ∙ ap w c.west-west.ensures) i
-    ∷ (ap read c.from-2.ensures ∙ widened (w a.e) c.from-arg-2-1.given) i
-    ∷ (ap read c.from-3.ensures ∙ widened _ c.from-arg-3-1.given ∙ ap (λ x. w (n + x)) c.south.ensures) i
-    ∷ (ap read c.from-4.ensures ∙ widened (w (n + a.e)) c.from-arg-4-1.given) i ∷ []
+    ∷ (ap read c.from-2.ensures ∙ widened (w a.element.index) c.from-arg-2-1.given) i
+    ∷ (ap read c.from-3.ensures ∙ widened _ c.from-arg-3-1.given ∙ (λ j. w (c.elements-n.ensures j + c.south.ensures j))) i
+    ∷ (ap read c.from-4.ensures ∙ widened (w (n + a.element.index)) c.from-arg-4-1.given ∙ ap (λ m. w (m + a.element.index)) c.elements-n.ensures) i ∷ []
 
 pub overflow_add-south : goal.overflow_add-south
 overflow_add-south c = let h = inside (goal.at.overflow_add-south c).After-south in search rules

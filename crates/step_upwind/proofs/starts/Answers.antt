@@ -10,21 +10,21 @@ use mir.Val.{to_z, of_z}
 use mir.Facts.{to_z-of_z}
 use Rattle.whole.specs.Table.{table}
 use Rattle.rules.proofs.ShapeLaws.{elements-le}
-use Rattle.step_grid.proofs.PlaceLaws.{west-in, east-in, south-in, north-in}
+use Rattle.step_grid.proofs.PlaceLaws.{placed, west-in, east-in, south-in, north-in}
 use Rattle.step_upwind.specs.Upwind.{upwind_start}
 use Rattle.step_upwind.proofs.starts.Goals as goal
 
 pub upwind_start-requires-clause-behind_lt_most_elements : goal.upwind_start-requires-clause-behind_lt_most_elements
-upwind_start-requires-clause-behind_lt_most_elements c = omega (arith, c.west-west.ensures, west-in c.requires, elements-le c.args.shape c.requires.admits)
+upwind_start-requires-clause-behind_lt_most_elements c = omega (arith, c.west-west.ensures, west-in (placed c.args.element), elements-le c.args.element.grid.shape c.args.element.grid.admitted)
 
 pub upwind_start-requires-2-clause-ahead_lt_most_elements : goal.upwind_start-requires-2-clause-ahead_lt_most_elements
-upwind_start-requires-2-clause-ahead_lt_most_elements c = omega (arith, c.east-east.ensures, east-in c.requires, elements-le c.args.shape c.requires.admits)
+upwind_start-requires-2-clause-ahead_lt_most_elements c = omega (arith, c.east-east.ensures, east-in (placed c.args.element), elements-le c.args.element.grid.shape c.args.element.grid.admitted)
 
 pub upwind_start-requires-3-clause-behind_lt_most_elements : goal.upwind_start-requires-3-clause-behind_lt_most_elements
-upwind_start-requires-3-clause-behind_lt_most_elements c = omega (arith, c.south-south.ensures, south-in c.requires, elements-le c.args.shape c.requires.admits)
+upwind_start-requires-3-clause-behind_lt_most_elements c = omega (arith, c.south-south.ensures, south-in (placed c.args.element), elements-le c.args.element.grid.shape c.args.element.grid.admitted)
 
 pub upwind_start-requires-4-clause-ahead_lt_most_elements : goal.upwind_start-requires-4-clause-ahead_lt_most_elements
-upwind_start-requires-4-clause-ahead_lt_most_elements c = omega (arith, c.north-north.ensures, north-in c.requires, elements-le c.args.shape c.requires.admits)
+upwind_start-requires-4-clause-ahead_lt_most_elements c = omega (arith, c.north-north.ensures, north-in (placed c.args.element), elements-le c.args.element.grid.shape c.args.element.grid.admitted)
 
 -- a start by the wind and the elements that the rules name
 start_is : (x : ℕ) (v : ℤ) (b b' a a' l : ℕ) → x ≡ upwind_start (to_z w64 (of_z w64 v)) b a l → mag v < 2 ^ 63 → b ≡ b' → a ≡ a' → x ≡ upwind_start v b' a' l
