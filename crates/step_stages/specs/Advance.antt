@@ -25,7 +25,7 @@ abbrev pub new_value : ℕ → ℤ → ℤ → ℤ
 new_value m v s = v +ℤ floor_div s (divisor m)
 
 -- ---- one element: its stored values begin at `from`, the next stage's at `to`, its sums at `sums`
-pub record Element (w : List ℤ) (from to sums m : ℕ) : Type 0 where
+pub record Lent (w : List ℤ) (from to sums m : ℕ) : Type 0 where
   pub stage : m < 3
   pub before : from + 9 ≤ to
   pub between : to + 9 ≤ sums

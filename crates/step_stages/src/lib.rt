@@ -5,15 +5,16 @@
 ghost use Rattle.std.specs.Prelude.{◌≡◌, ◌+◌, ◌≤◌, ◌<◌, pos, length, get_or};
 ghost use Rattle.whole.specs.Bound.{Within, Are, AllWithin, floor_div};
 ghost use Rattle.whole.specs.Written.{Written};
-ghost use Rattle.rules.specs.Field.{quadratic, elements_length, Admitted};
+ghost use Rattle.rules.specs.Field.{quadratic, elements_length};
 ghost use Rattle.rules.specs.Sizes.{tendency_size, sum_size};
 ghost use Rattle.rules.specs.Calls.{wind_at};
 ghost use Rattle.step_layout.specs.Sections.{stage_length, stage_start, sums_start, work_used};
 ghost use Rattle.step_upwind.specs.Upwind.{WindsInRange};
-ghost use Rattle.step_stages.specs.Advance.{factor, divisor, Element, element_sums, element_values, stored_value, Ready, grid_sums, grid_values};
+ghost use Rattle.step_stages.specs.Advance.{factor, divisor, Lent, element_sums, element_values, stored_value, Ready, grid_sums, grid_values};
 
-use rules::Shape;
+use field_layout::Grid;
 use rules::element::{NODES, NUMBERS};
+use step_grid::Element;
 
 // How often a stage's tendency counts in the sum of tendencies.
 const FACTORS: [i64; 3] = [1, 1, 4];
@@ -43,7 +44,7 @@ fn advance_element(
     times: i64,
     t: &[i64; NODES],
 )
-    requires element { Element work.old from to sums stage }
+    requires lent { Lent work.old from to sums stage }
     requires times_value { times ≡ pos (factor stage) }
     requires all_within { AllWithin tendency_size t.now }
     ensures { Written to sums 9 (element_values stage from sums t.now work.old) (element_sums stage sums t.now work.old) work.old work.new }
@@ -57,22 +58,21 @@ fn advance_element(
 }
 
 // From a stage to the next one: every element's tendencies, sums and values.
-pub fn advance(work: &mut [i64], wind: &[i16], shape: Shape, stage: usize)
-    requires admitted { Admitted shape }
-    requires winds_in_range { WindsInRange shape wind.now }
+pub fn advance(work: &mut [i64], wind: &[i16], grid: Grid, stage: usize)
+    requires winds_in_range { WindsInRange grid.shape wind.now }
     requires stage_bound { stage < 3 }
-    requires ready { Ready shape stage work.old }
-    ensures { Written (stage_start shape (stage + 1)) (sums_start shape) (stage_length shape) (grid_values shape (wind_at wind.now) stage work.old) (grid_sums shape (wind_at wind.now) stage work.old) work.old work.new }
+    requires ready { Ready grid.shape stage work.old }
+    ensures { Written (stage_start grid.shape (stage + 1)) (sums_start grid.shape) (stage_length grid.shape) (grid_values grid.shape (wind_at wind.now) stage work.old) (grid_sums grid.shape (wind_at wind.now) stage work.old) work.old work.new }
 {
-    let n = shape.nx * shape.ny;
-    let start = step_layout::stage_start(shape, stage);
-    let end = step_layout::stage_start(shape, stage + 1);
-    let mut from = step_layout::stage_start(shape, 0);
+    let n = grid.elements();
+    let start = step_layout::stage_start(grid, stage);
+    let end = step_layout::stage_start(grid, stage + 1);
+    let mut from = step_layout::stage_start(grid, 0);
     let mut to = end;
-    let mut sums = step_layout::sums_start(shape);
+    let mut sums = step_layout::sums_start(grid);
     let times = FACTORS[stage];
     for e in 0..n {
-        let t = step_upwind::tendencies(&work[start..end], wind, shape, e);
+        let t = step_upwind::tendencies(&work[start..end], wind, Element { grid, index: e });
         advance_element(work, from, to, sums, stage, times, &t);
         from += NODES;
         to += NODES;
@@ -94,16 +94,15 @@ fn start_element(work: &mut [i64], numbers: &[u32], to: usize, sums: usize)
 }
 
 // Stage 0 of a tracer's part, and zero sums.
-pub fn start(work: &mut [i64], part: &[u32], shape: Shape)
-    requires admitted { Admitted shape }
-    requires part_len { length part.now ≡ elements_length quadratic shape }
-    requires shape_in_bounds { work_used shape ≤ length work.old }
-    ensures { Written (stage_start shape 0) (sums_start shape) (stage_length shape) (stored_value part.now) (λ _. pos 0) work.old work.new }
+pub fn start(work: &mut [i64], part: &[u32], grid: Grid)
+    requires part_len { length part.now ≡ elements_length quadratic grid.shape }
+    requires shape_in_bounds { work_used grid.shape ≤ length work.old }
+    ensures { Written (stage_start grid.shape 0) (sums_start grid.shape) (stage_length grid.shape) (stored_value part.now) (λ _. pos 0) work.old work.new }
 {
-    let n = shape.nx * shape.ny;
+    let n = grid.elements();
     let mut from = 0;
-    let mut to = step_layout::stage_start(shape, 0);
-    let mut sums = step_layout::sums_start(shape);
+    let mut to = step_layout::stage_start(grid, 0);
+    let mut sums = step_layout::sums_start(grid);
     for e in 0..n {
         let end = from + NUMBERS;
         start_element(work, &part[from..end], to, sums);

@@ -8,4 +8,4 @@ use Rattle.step_stages.specs.Advance.{grid_sums, grid_values}
 use Rattle.step_stages.proofs.advance.Given as goal
 
 abbrev pub invariant-loop-e : goal.invariant-loop-e
-invariant-loop-e l = (l.e ≤ l.n) × (l.from ≡ l.initial.from + l.e * 9) × (l.to ≡ l.initial.to + l.e * 9) × (l.sums ≡ l.initial.sums + l.e * 9) × Written l.initial.to l.initial.sums (l.e * 9) (grid_values l.shape (wind_at l.wind) l.stage l.initial.work) (grid_sums l.shape (wind_at l.wind) l.stage l.initial.work) l.initial.work l.work
+invariant-loop-e l = (l.e ≤ l.n) × (l.from ≡ l.initial.from + l.e * 9) × (l.to ≡ l.initial.to + l.e * 9) × (l.sums ≡ l.initial.sums + l.e * 9) × Written l.initial.to l.initial.sums (l.e * 9) (grid_values l.grid.shape (wind_at l.wind) l.stage l.initial.work) (grid_sums l.grid.shape (wind_at l.wind) l.stage l.initial.work) l.initial.work l.work

@@ -22,19 +22,19 @@ loop-k-init c = (omega arith, written_none _ _ _ _ _)
 
 -- what a turn reads is as it was: the stored value, and the sum
 value-is : (c : In-loop-k) → at c.loop-k.work (c.args.from + c.loop-k.k) ≡ at c.args.work.now (c.args.from + c.loop-k.k)
-value-is c = let h = c.requires.element in c.loop-k.invariant.1.kept _ (λ p q. omega (arith, h.before)) (λ p q. omega (arith, h.before, h.between))
+value-is c = let h = c.requires.lent in c.loop-k.invariant.1.kept _ (λ p q. omega (arith, h.before)) (λ p q. omega (arith, h.before, h.between))
 
 value-small : (c : In-loop-k) → Within limit (at c.loop-k.work (c.args.from + c.loop-k.k))
-value-small c = subst (λ (z : ℤ). Within limit z) (sym (value-is c)) (c.requires.element.values c.loop-k.k (omega arith))
+value-small c = subst (λ (z : ℤ). Within limit z) (sym (value-is c)) (c.requires.lent.values c.loop-k.k (omega arith))
 
 sum_is : (c : In-loop-k) → at c.loop-k.work (c.args.sums + c.loop-k.k) ≡ at c.args.work.now (c.args.sums + c.loop-k.k)
-sum_is c = let h = c.requires.element in c.loop-k.invariant.1.kept _ (λ p q. omega (arith, h.between)) (λ p q. omega arith)
+sum_is c = let h = c.requires.lent in c.loop-k.invariant.1.kept _ (λ p q. omega (arith, h.between)) (λ p q. omega arith)
 
 sum-small : (c : In-loop-k) → Within earlier_sum_size (at c.loop-k.work (c.args.sums + c.loop-k.k))
-sum-small c = subst (λ (z : ℤ). Within earlier_sum_size z) (sym (sum_is c)) (c.requires.element.small c.loop-k.k (omega arith))
+sum-small c = subst (λ (z : ℤ). Within earlier_sum_size z) (sym (sum_is c)) (c.requires.lent.small c.loop-k.k (omega arith))
 
 room : (c : In-loop-k) → (c.args.sums + 9 ≤ length c.loop-k.work) × (c.args.to + 9 ≤ c.args.sums) × (c.args.from + 9 ≤ c.args.to)
-room c = let h = c.requires.element in (omega (arith, h.room, c.loop-k.invariant.1.long), h.between, h.before)
+room c = let h = c.requires.lent in (omega (arith, h.room, c.loop-k.invariant.1.long), h.between, h.before)
 
 -- the factor is at most 4
 times-small : (c : In-loop-k) → Within 6 c.args.times
@@ -51,7 +51,7 @@ divided-requires c =
     let h = c.requires.all_within in
     let f = times-small (goal.at.divided-requires c).In-loop-k in
     let s = sum-small (goal.at.divided-requires c).In-loop-k in
-    record { stage_bound = c.requires.element.stage; within = within (search sizes depth 20) tt }
+    record { stage_bound = c.requires.lent.stage; within = within (search sizes depth 20) tt }
 
 pub overflow_add-work : goal.overflow_add-work
 overflow_add-work c =
@@ -78,7 +78,7 @@ loop-k-preserved c =
     let sum_of = ap₂ (λ x y. x +ℤ y *ℤ at t k) (sum_is (goal.at.loop-k-preserved c).In-loop-k) c.requires.times_value in
     let d = are-eq (are_at {z = to_z w64 (of_z w64 (to_z w64 (of_z w64 (at l.work (a.sums + k))) +ℤ to_z w64 (of_z w64 (to_z w64 (of_z w64 a.times) *ℤ to_z w64 (of_z w64 (at t k))))))} (λ z. floor_div z (divisor m)) (at l.work (a.sums + k) +ℤ a.times *ℤ at t k) c.divided.ensures (search exacts depth 20) tt) (ap (λ z. floor_div z (divisor m)) sum_of) in (
       omega arith,
-      written_next (element_values m a.from a.sums t w) (element_sums m a.sums t w) _ _ (omega (arith, room (goal.at.loop-k-preserved c).In-loop-k)) (omega (arith, c.requires.element.room)) l.invariant.1
+      written_next (element_values m a.from a.sums t w) (element_sums m a.sums t w) _ _ (omega (arith, room (goal.at.loop-k-preserved c).In-loop-k)) (omega (arith, c.requires.lent.room)) l.invariant.1
           (exact (search exacts depth 20) tt ∙ sum_of)
           (exact (search exacts depth 20) tt ∙ ap (λ x. x +ℤ floor_div sum (divisor m)) (value-is (goal.at.loop-k-preserved c).In-loop-k)),
     )

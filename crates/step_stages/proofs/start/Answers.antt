@@ -7,7 +7,6 @@ use lib.ListN.{length}
 use Rattle.whole.proofs.OverwriteLaws.{part-size}
 use Rattle.whole.proofs.WrittenLaws.{written_none, written-moved, written-turn}
 use Rattle.rules.specs.Field.{elements}
-use Rattle.rules.proofs.ShapeLaws.{elements-le}
 use Rattle.step_layout.proofs.Laws.{Room, work-room}
 use Rattle.field_layout.proofs.PlaceLaws.{elements-are}
 use Rattle.step_layout.specs.Sections.{stage_start, sums_start}
@@ -16,19 +15,16 @@ use Rattle.step_stages.proofs.Laws.{stored_at}
 use Rattle.step_stages.proofs.start.Goals as goal
 use Rattle.step_stages.proofs.start.Goals.{After-sums_start-sums}
 
-pub overflow_mul-n : goal.overflow_mul-n
-overflow_mul-n c = record { fits = omega (arith, elements-le c.args.shape c.requires.admitted) }
-
 pub loop-e-init : goal.loop-e-init
 loop-e-init c = (omega arith, omega arith, omega arith, omega arith, written_none _ _ _ _ _)
 
 -- where both stretches start, and that part and work are long enough
-sizes : (c : After-sums_start-sums) → let g = c.args.shape in
-    (c.stage_start-to.result ≡ stage_start g 0) × (c.sums_start-sums.result ≡ sums_start g)
+sizes : (c : After-sums_start-sums) → let g = c.args.grid.shape in
+    (c.elements-n.result ≡ elements g) × (c.stage_start-to.result ≡ stage_start g 0) × (c.sums_start-sums.result ≡ sums_start g)
     × (length c.args.part.now ≡ elements g * 10) × Room g (length c.args.work.now)
 sizes c =
-    let g = c.args.shape in
-    (c.stage_start-to.ensures, c.sums_start-sums.ensures, omega (arith, c.requires.part_len, elements-are g), work-room g c.requires.admitted c.requires.shape_in_bounds)
+    let g = c.args.grid.shape in
+    (c.elements-n.ensures, c.stage_start-to.ensures, c.sums_start-sums.ensures, omega (arith, c.requires.part_len, elements-are g), work-room g c.args.grid.admitted c.requires.shape_in_bounds)
 
 pub overflow_add-end : goal.overflow_add-end
 overflow_add-end c = record { fits = omega (arith, sizes (goal.at.overflow_add-end c).After-sums_start-sums, c.loop-e.invariant.1) }
@@ -66,4 +62,4 @@ pub shape_of-work : goal.shape_of-work
 shape_of-work c = c.loop-e.invariant.4.long
 
 pub returns : goal.returns
-returns c = let s = sizes (goal.at.returns c).After-sums_start-sums in written-moved _ _ _ s.0 s.1 (omega arith) c.loop-e.invariant.4
+returns c = let s = sizes (goal.at.returns c).After-sums_start-sums in written-moved _ _ _ s.1 s.2 (omega (arith, s.0)) c.loop-e.invariant.4
