@@ -3,7 +3,7 @@ use Rattle.std.specs.Prelude.{List, ℕ, ◌+◌, ◌*◌, ◌≤◌, ◌<◌, �
 use Rattle.whole.specs.Table.{at}
 use Rattle.whole.specs.Bound.{Within}
 use Rattle.rules.specs.declared.Shape.{Shape}
-use Rattle.rules.specs.Field.{quadratic, north_face, Admitted}
+use Rattle.rules.specs.Field.{quadratic, north_face}
 use Rattle.rules.specs.Grid.{east, north}
 use Rattle.rules.specs.Stages.{face_sum, flux_of}
 use Rattle.rules.specs.Sizes.{stage_size}
@@ -12,7 +12,6 @@ use Rattle.step_upwind.specs.Upwind.{upwind_start}
 
 -- work with stages 0, 1 and 2, none of whose numbers is too large
 pub record Staged (g : Shape) (w : List ℤ) : Type 0 where
-  pub admits : Admitted g
   pub long : work_used g ≤ length w
   pub small : (m i : ℕ) → m < 3 → i < stage_length g → Within stage_size (at w (stage_start g m + i))
 

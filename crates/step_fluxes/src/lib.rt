@@ -13,19 +13,20 @@ ghost use Rattle.step_layout.specs.Sections.{stage_length, fluxes_start, north_f
 ghost use Rattle.step_upwind.specs.Upwind.{WindsInRange};
 ghost use Rattle.step_fluxes.specs.Face.{Staged, stages_sum, face_flux, east_flux, north_flux};
 
-use rules::Shape;
+use field_layout::Grid;
 use rules::element::{SIDE, line_weight};
+use step_grid::Element;
 use step_upwind::{EAST_LINE, NORTH_LINE};
 
 // The sum over a face's nodes of the stages' upwind values, which stand at start, start + stride, .. in each stage.
-fn face_sum(work: &[i64], shape: Shape, start: usize, stride: usize) -> i64
-    requires staged { Staged shape work.now }
-    requires stride_bound { start + 2 * stride < stage_length shape }
-    ensures { Are face_sum_size result (stages_sum shape work.now start stride) }
+fn face_sum(work: &[i64], grid: Grid, start: usize, stride: usize) -> i64
+    requires staged { Staged grid.shape work.now }
+    requires stride_bound { start + 2 * stride < stage_length grid.shape }
+    ensures { Are face_sum_size result (stages_sum grid.shape work.now start stride) }
 {
-    let first = step_layout::stage_start(shape, 0);
-    let second = step_layout::stage_start(shape, 1);
-    let third = step_layout::stage_start(shape, 2);
+    let first = step_layout::stage_start(grid, 0);
+    let second = step_layout::stage_start(grid, 1);
+    let third = step_layout::stage_start(grid, 2);
     let mut sum: i64 = 0;
     let mut at = start;
     for r in 0..SIDE {
@@ -55,50 +56,51 @@ fn flux_of(c: i64, sum: i64) -> i64
 // element behind it and goes on by `stride`.
 fn face_flux(
     work: &[i64],
-    shape: Shape,
+    grid: Grid,
     c: i64,
     behind: usize,
     ahead: usize,
     last: usize,
     stride: usize,
 ) -> i64
-    requires staged { Staged shape work.now }
+    requires staged { Staged grid.shape work.now }
     requires within { Within 1024 c }
-    requires behind_bound { behind < elements shape }
-    requires ahead_bound { ahead < elements shape }
+    requires behind_bound { behind < elements grid.shape }
+    requires ahead_bound { ahead < elements grid.shape }
     requires stride_bound { last + 2 * stride < 9 }
-    ensures { Are flux_size result (face_flux shape work.now c behind ahead last stride) }
+    ensures { Are flux_size result (face_flux grid.shape work.now c behind ahead last stride) }
 {
     let start = step_upwind::upwind_start(c, behind, ahead, last);
-    let sum = face_sum(work, shape, start, stride);
+    let sum = face_sum(work, grid, start, stride);
     flux_of(c, sum)
 }
 
 // The fluxes of all faces.
-pub fn fluxes(work: &mut [i64], wind: &[i16], shape: Shape)
-    requires winds_in_range { WindsInRange shape wind.now }
-    requires staged { Staged shape work.old }
-    ensures { Written (fluxes_start shape) (north_fluxes_start shape) (elements shape) (east_flux shape (wind_at wind.now) work.old) (north_flux shape (wind_at wind.now) work.old) work.old work.new }
+pub fn fluxes(work: &mut [i64], wind: &[i16], grid: Grid)
+    requires winds_in_range { WindsInRange grid.shape wind.now }
+    requires staged { Staged grid.shape work.old }
+    ensures { Written (fluxes_start grid.shape) (north_fluxes_start grid.shape) (elements grid.shape) (east_flux grid.shape (wind_at wind.now) work.old) (north_flux grid.shape (wind_at wind.now) work.old) work.old work.new }
 {
-    let n = shape.nx * shape.ny;
-    let easts = step_layout::fluxes_start(shape);
-    let norths = step_layout::north_fluxes_start(shape);
+    let n = grid.elements();
+    let easts = step_layout::fluxes_start(grid);
+    let norths = step_layout::north_fluxes_start(grid);
     for e in 0..n {
+        let element = Element { grid, index: e };
         let east = face_flux(
             work,
-            shape,
-            wind[e] as i64,
+            grid,
+            i64::from(wind[e]),
             e,
-            step_grid::east(shape, e),
+            element.east(),
             EAST_LINE,
             SIDE,
         );
         let north = face_flux(
             work,
-            shape,
-            wind[n + e] as i64,
+            grid,
+            i64::from(wind[n + e]),
             e,
-            step_grid::north(shape, e),
+            element.north(),
             NORTH_LINE,
             1,
         );

@@ -25,18 +25,18 @@ loop-r-init c = (omega arith, omega (arith, mul-zero c.args.stride), record { sa
 
 -- the terms are the definition's
 terms : (c : After-stage_start-third) → let a = c.args in
-    term a.work.now c.stage_start-first.result c.stage_start-second.result c.stage_start-third.result a.start a.stride ≡ stages_term a.shape a.work.now a.start a.stride
-terms c = let a = c.args in same-terms a.shape a.work.now a.start a.stride c.stage_start-first.ensures c.stage_start-second.ensures c.stage_start-third.ensures
+    term a.work.now c.stage_start-first.result c.stage_start-second.result c.stage_start-third.result a.start a.stride ≡ stages_term a.grid.shape a.work.now a.start a.stride
+terms c = let a = c.args in same-terms a.grid.shape a.work.now a.start a.stride c.stage_start-first.ensures c.stage_start-second.ensures c.stage_start-third.ensures
 
 -- what a turn reads is there
 inside : (c : In-loop-r) → let a = c.args in
-    (c.stage_start-first.result ≡ stage_start a.shape 0) × (c.stage_start-second.result ≡ stage_start a.shape 1)
-    × (c.stage_start-third.result ≡ stage_start a.shape 2) × (c.loop-r.at < stage_length a.shape)
-    × Room a.shape (length a.work.now)
+    (c.stage_start-first.result ≡ stage_start a.grid.shape 0) × (c.stage_start-second.result ≡ stage_start a.grid.shape 1)
+    × (c.stage_start-third.result ≡ stage_start a.grid.shape 2) × (c.loop-r.at < stage_length a.grid.shape)
+    × Room a.grid.shape (length a.work.now)
 inside c =
     let a = c.args in
     let h = c.requires.staged in
-    (c.stage_start-first.ensures, c.stage_start-second.ensures, c.stage_start-third.ensures, omega (arith, c.loop-r.invariant.1, line-room a.start a.stride c.loop-r.r c.requires.stride_bound (omega arith)), work-room a.shape h.admits h.long)
+    (c.stage_start-first.ensures, c.stage_start-second.ensures, c.stage_start-third.ensures, omega (arith, c.loop-r.invariant.1, line-room a.start a.stride c.loop-r.r c.requires.stride_bound (omega arith)), work-room a.grid.shape c.args.grid.admitted h.long)
 
 -- and small
 small : (c : In-loop-r) → let w = c.args.work.now in
@@ -73,7 +73,7 @@ loop-r-preserved c =
       omega (arith, l.invariant.1, mul-suc a.stride l.r, ap (λ n. a.stride * n) (add-one l.r)),
       record {
         same = exact (search exacts depth 20) tt ∙ ap (λ n. sum_ℤ l.r t +ℤ pos (quadratic.line_weight l.r) *ℤ (at w (x + n) +ℤ pos 4 *ℤ at w (z + n) +ℤ at w (y + n))) l.invariant.1 ∙ sym (sum_ℤ-more l.r t);
-        bound = subst (λ t. Within face_sum_size (sum_ℤ (l.r + 1) t)) (sym (terms (goal.at.loop-r-preserved c).After-stage_start-third)) (terms-within a.shape w a.start a.stride c.requires.staged c.requires.stride_bound _ (omega arith));
+        bound = subst (λ t. Within face_sum_size (sum_ℤ (l.r + 1) t)) (sym (terms (goal.at.loop-r-preserved c).After-stage_start-third)) (terms-within a.grid.shape w a.start a.stride c.requires.staged c.requires.stride_bound _ (omega arith));
       },
     )
 
@@ -81,7 +81,7 @@ pub returns : goal.returns
 returns c =
     let a = c.args in
     let e : c.loop-r.r ≡ 3 = omega arith in
-    are-eq (rw e at c.loop-r.invariant.2) (ap (sum_ℤ 3) (terms (goal.at.returns c).After-stage_start-third) ∙ terms-are a.shape a.work.now a.start a.stride)
+    are-eq (rw e at c.loop-r.invariant.2) (ap (sum_ℤ 3) (terms (goal.at.returns c).After-stage_start-third) ∙ terms-are a.grid.shape a.work.now a.start a.stride)
 
 pub overflow_add-p0 : goal.overflow_add-p0
 overflow_add-p0 c = let h = inside (goal.at.overflow_add-p0 c).In-loop-r in search rules

@@ -7,4 +7,4 @@ use Rattle.step_fluxes.specs.Face.{east_flux, north_flux}
 use Rattle.step_fluxes.proofs.fluxes.Given as goal
 
 abbrev pub invariant-loop-e : goal.invariant-loop-e
-invariant-loop-e l = (l.e ≤ l.n) × Written l.easts l.norths l.e (east_flux l.shape (wind_at l.wind) l.initial.work) (north_flux l.shape (wind_at l.wind) l.initial.work) l.initial.work l.work
+invariant-loop-e l = (l.e ≤ l.n) × Written l.easts l.norths l.e (east_flux l.grid.shape (wind_at l.wind) l.initial.work) (north_flux l.grid.shape (wind_at l.wind) l.initial.work) l.initial.work l.work
