@@ -5,7 +5,7 @@ use Rattle.whole.specs.Table.{at}
 use Rattle.whole.specs.Bound.{Within, AllWithin}
 use Rattle.whole.specs.Parts.{positive, negative}
 use Rattle.rules.specs.declared.Shape.{Shape}
-use Rattle.rules.specs.Field.{quadratic, elements, elements_length, faces, north_face, mass, limit, Admitted}
+use Rattle.rules.specs.Field.{quadratic, elements, elements_length, faces, north_face, mass, limit}
 use Rattle.rules.specs.Grid.{west, east, south, north}
 use Rattle.rules.specs.Correction.{cut}
 use Rattle.rules.specs.Sizes.{flux_size, outflow_size}
@@ -22,7 +22,6 @@ lent_fluxes g w = take (faces g) (drop (fluxes_start g) w)
 
 -- a tracer's part, and work before masses and outflows are made
 pub record BeforeAmounts (g : Shape) (p : List ℕ) (w : List ℤ) : Type 0 where
-  pub admits : Admitted g
   pub numbers : length p ≡ elements_length quadratic g
   pub within-limit : (e : ℕ) → e < elements g → mass quadratic p e ≤ limit
   pub long : work_used g ≤ length w
@@ -48,7 +47,6 @@ limited_north g w e = limited_face g w (north_face g e) e (north g e)
 
 -- work before the fluxes are cut; what is cut fits the report
 pub record Amounts (g : Shape) (w : List ℤ) : Type 0 where
-  pub admits : Admitted g
   pub long : work_used g ≤ length w
   pub fluxes : (f : ℕ) → f < faces g → Within flux_size (at w (fluxes_start g + f))
   pub masses : (e : ℕ) → e < elements g → NotNegative limit (at w (masses_start g + e))

@@ -24,27 +24,24 @@ use Rattle.step_correction.proofs.Laws.{mass-part}
 use Rattle.step_correction.proofs.amounts.Goals as goal
 use Rattle.step_correction.proofs.amounts.Goals.{After-mass-mass, In-loop-e}
 
-pub overflow_mul-n : goal.overflow_mul-n
-overflow_mul-n c = record { fits = omega (arith, elements-le c.args.shape c.requires.admits) }
-
 pub loop-e-init : goal.loop-e-init
 loop-e-init c = (omega arith, omega arith, written_none _ _ _ _ _)
 
-placed : (c : In-loop-e) → Placed c.args.shape c.loop-e.e
-placed c = record { admits = c.requires.admits; inside = omega arith }
+placed : (c : In-loop-e) → Placed c.args.grid.shape c.loop-e.e
+placed c = record { admits = c.args.grid.admitted; inside = omega (arith, c.elements-n.ensures) }
 
 -- where the sections start, and that a turn's numbers are within part and work
 sizes : (c : In-loop-e) → let a = c.args in
-    (c.fluxes_start-fluxes.result ≡ fluxes_start a.shape) × (c.masses_start-masses.result ≡ masses_start a.shape)
-    × (c.outflows_start-outflows.result ≡ outflows_start a.shape) × (c.loop-e.e < elements a.shape)
+    (c.fluxes_start-fluxes.result ≡ fluxes_start a.grid.shape) × (c.masses_start-masses.result ≡ masses_start a.grid.shape)
+    × (c.outflows_start-outflows.result ≡ outflows_start a.grid.shape) × (c.loop-e.e < elements a.grid.shape)
     × (c.loop-e.start + 10 ≤ length a.part.now) × (c.loop-e.start + 10 ≤ most_used)
-    × Room a.shape (length a.work.now)
+    × Room a.grid.shape (length a.work.now)
 sizes c =
-    let g = c.args.shape in
+    let g = c.args.grid.shape in
     let h = c.requires in
     let l = c.loop-e in
     let p = (placed c).inside in
-    (c.fluxes_start-fluxes.ensures, c.masses_start-masses.ensures, c.outflows_start-outflows.ensures, p, omega (arith, p, l.invariant.1, h.numbers, elements-are g), omega (arith, p, l.invariant.1, places-le g h.admits), work-room g h.admits h.long)
+    (c.fluxes_start-fluxes.ensures, c.masses_start-masses.ensures, c.outflows_start-outflows.ensures, p, omega (arith, p, l.invariant.1, h.numbers, elements-are g), omega (arith, p, l.invariant.1, places-le g c.args.grid.admitted), work-room g c.args.grid.admitted h.long)
 
 pub mass-mass-requires : goal.mass-mass-requires
 mass-mass-requires c =
@@ -56,15 +53,18 @@ slice_bounds-outflow-end c = omega (arith, sizes (goal.at.slice_bounds-outflow-e
 
 -- the fluxes that are lent are as they were
 lent : (c : In-loop-e) → let a = c.args in
-    take (c.masses_start-masses.result - c.fluxes_start-fluxes.result) (drop c.fluxes_start-fluxes.result c.loop-e.work) ≡ lent_fluxes a.shape a.work.now
+    take (c.masses_start-masses.result - c.fluxes_start-fluxes.result) (drop c.fluxes_start-fluxes.result c.loop-e.work) ≡ lent_fluxes a.grid.shape a.work.now
 lent c =
-    let g = c.args.shape in
+    let g = c.args.grid.shape in
     let h = sizes c in
     lent-kept (fluxes_start g) (faces g) c.fluxes_start-fluxes.result (c.masses_start-masses.result - c.fluxes_start-fluxes.result) h.0 (omega (arith, h)) c.loop-e.invariant.2 (omega (arith, h)) (λ i p q u v. omega (arith, h)) (λ i p q u v. omega (arith, h))
 
+pub invariant_of-outflow : goal.invariant_of-outflow
+invariant_of-outflow c = record { inside = omega (arith, c.elements-n.ensures) }
+
 pub outflow-out-requires : goal.outflow-out-requires
 outflow-out-requires c =
-    let l = c.loop-e in record { placed = placed (goal.at.outflow-out-requires c).In-loop-e; fluxes_len = part-size (faces c.args.shape) c.fluxes_start-fluxes.result (c.masses_start-masses.result - c.fluxes_start-fluxes.result) l.work (omega (arith, sizes (goal.at.outflow-out-requires c).In-loop-e)) (omega (arith, sizes (goal.at.outflow-out-requires c).In-loop-e, l.invariant.2.long)); all_within = subst (AllWithin flux_size) (sym (lent (goal.at.outflow-out-requires c).In-loop-e)) c.requires.small }
+    let l = c.loop-e in record { fluxes_len = part-size (faces c.args.grid.shape) c.fluxes_start-fluxes.result (c.masses_start-masses.result - c.fluxes_start-fluxes.result) l.work (omega (arith, sizes (goal.at.outflow-out-requires c).In-loop-e)) (omega (arith, sizes (goal.at.outflow-out-requires c).In-loop-e, l.invariant.2.long)); all_within = subst (AllWithin flux_size) (sym (lent (goal.at.outflow-out-requires c).In-loop-e)) c.requires.small }
 
 -- the mass and the outflow of a turn
 mass-made : (c : After-mass-mass) → c.mass-mass.result ≡ mass quadratic c.args.part.now c.loop-e.e
@@ -89,7 +89,7 @@ bounds-work-masses c = rw length-set (omega (arith, sizes (goal.at.bounds-work-m
 pub loop-e-preserved : goal.loop-e-preserved
 loop-e-preserved c =
     let a = c.args in
-    let g = a.shape in
+    let g = a.grid.shape in
     let l = c.loop-e in (
       omega arith,
       omega (arith, l.invariant.1),

@@ -9,4 +9,4 @@ use Rattle.step_correction.specs.Amounts.{lent_fluxes, local_outflow}
 use Rattle.step_correction.proofs.amounts.Given as goal
 
 abbrev pub invariant-loop-e : goal.invariant-loop-e
-invariant-loop-e l = (l.e ≤ l.n) × (l.start ≡ l.e * 10) × Written l.masses l.outflows l.e (λ e. pos (mass quadratic l.part e)) (λ e. pos (local_outflow l.shape (at (lent_fluxes l.shape l.initial.work)) e)) l.initial.work l.work
+invariant-loop-e l = (l.e ≤ l.n) × (l.start ≡ l.e * 10) × Written l.masses l.outflows l.e (λ e. pos (mass quadratic l.part e)) (λ e. pos (local_outflow l.grid.shape (at (lent_fluxes l.grid.shape l.initial.work)) e)) l.initial.work l.work

@@ -22,39 +22,39 @@ use Rattle.step_correction.proofs.limited_face.Goals as goal
 use Rattle.step_correction.proofs.limited_face.Goals.{After-donor-d, After-flux-1, After-fluxes_start, After-masses_start-masses}
 
 -- the face's flux is there
-flux-there : (c : After-fluxes_start) → (c.fluxes_start.result ≡ fluxes_start c.args.shape) × (c.args.f < faces c.args.shape)
-    × Room c.args.shape (length c.args.work.now)
-flux-there c = (c.fluxes_start.ensures, c.requires.f_bound, work-room c.args.shape c.requires.amounts.admits c.requires.amounts.long)
+flux-there : (c : After-fluxes_start) → (c.fluxes_start.result ≡ fluxes_start c.args.grid.shape) × (c.args.f < faces c.args.grid.shape)
+    × Room c.args.grid.shape (length c.args.work.now)
+flux-there c = (c.fluxes_start.ensures, c.requires.f_bound, work-room c.args.grid.shape c.args.grid.admitted c.requires.amounts.long)
 
 -- the flux, and its donor
 flux-is : (c : After-flux-1) → let a = c.args in
-    to_z w64 (of_z w64 (at a.work.now (c.fluxes_start.result + a.f))) ≡ at a.work.now (fluxes_start a.shape + a.f)
+    to_z w64 (of_z w64 (at a.work.now (c.fluxes_start.result + a.f))) ≡ at a.work.now (fluxes_start a.grid.shape + a.f)
 flux-is c =
     ap (λ n. to_z w64 (of_z w64 (at c.args.work.now (n + c.args.f)))) c.fluxes_start.ensures ∙ back_is w64 _ (c.requires.amounts.fluxes c.args.f c.requires.f_bound) tt
 
 donor-is : (c : After-donor-d) → let a = c.args in
-    c.donor-d.result ≡ cond (non_neg (at a.work.now (fluxes_start a.shape + a.f))) a.behind a.ahead
+    c.donor-d.result ≡ cond (non_neg (at a.work.now (fluxes_start a.grid.shape + a.f))) a.behind a.ahead
 donor-is c = let a = c.args in c.donor-d.ensures ∙ ap (λ z. cond (non_neg z) a.behind a.ahead) (flux-is c.before)
 
-donor-inside : (c : After-donor-d) → c.donor-d.result < elements c.args.shape
+donor-inside : (c : After-donor-d) → c.donor-d.result < elements c.args.grid.shape
 donor-inside c =
     let a = c.args in
-    subst (λ (d : ℕ). d < elements a.shape) (sym (donor-is c)) (cond_ind (non_neg (at a.work.now (fluxes_start a.shape + a.f))) a.behind a.ahead (λ d. d < elements a.shape) (λ _. c.requires.behind_bound) (λ _. c.requires.ahead_bound))
+    subst (λ (d : ℕ). d < elements a.grid.shape) (sym (donor-is c)) (cond_ind (non_neg (at a.work.now (fluxes_start a.grid.shape + a.f))) a.behind a.ahead (λ d. d < elements a.grid.shape) (λ _. c.requires.behind_bound) (λ _. c.requires.ahead_bound))
 
 -- the donor's outflow and mass are there
-amounts-there : (c : After-masses_start-masses) → (c.outflows_start-outflows.result ≡ outflows_start c.args.shape) × (c.masses_start-masses.result ≡ masses_start c.args.shape)
-    × (c.donor-d.result < elements c.args.shape) × Room c.args.shape (length c.args.work.now)
+amounts-there : (c : After-masses_start-masses) → (c.outflows_start-outflows.result ≡ outflows_start c.args.grid.shape) × (c.masses_start-masses.result ≡ masses_start c.args.grid.shape)
+    × (c.donor-d.result < elements c.args.grid.shape) × Room c.args.grid.shape (length c.args.work.now)
 amounts-there c =
-    (c.outflows_start-outflows.ensures, c.masses_start-masses.ensures, donor-inside c.before.before, work-room c.args.shape c.requires.amounts.admits c.requires.amounts.long)
+    (c.outflows_start-outflows.ensures, c.masses_start-masses.ensures, donor-inside c.before.before, work-room c.args.grid.shape c.args.grid.admitted c.requires.amounts.long)
 
 -- as they are read
 out-is : (c : After-masses_start-masses) → let a = c.args in
-    to_z w64 (of_z w64 (at a.work.now (c.outflows_start-outflows.result + c.donor-d.result))) ≡ at a.work.now (outflows_start a.shape + c.donor-d.result)
+    to_z w64 (of_z w64 (at a.work.now (c.outflows_start-outflows.result + c.donor-d.result))) ≡ at a.work.now (outflows_start a.grid.shape + c.donor-d.result)
 out-is c =
     ap (λ n. to_z w64 (of_z w64 (at c.args.work.now (n + c.donor-d.result)))) c.outflows_start-outflows.ensures ∙ back_is w64 _ (c.requires.amounts.outflows c.donor-d.result (donor-inside c.before.before)).small tt
 
 mass-is : (c : After-masses_start-masses) → let a = c.args in
-    to_z w64 (of_z w64 (at a.work.now (c.masses_start-masses.result + c.donor-d.result))) ≡ at a.work.now (masses_start a.shape + c.donor-d.result)
+    to_z w64 (of_z w64 (at a.work.now (c.masses_start-masses.result + c.donor-d.result))) ≡ at a.work.now (masses_start a.grid.shape + c.donor-d.result)
 mass-is c =
     ap (λ n. to_z w64 (of_z w64 (at c.args.work.now (n + c.donor-d.result)))) c.masses_start-masses.ensures ∙ back_is w64 _ (c.requires.amounts.masses c.donor-d.result (donor-inside c.before.before)).small tt
 
@@ -68,7 +68,7 @@ returns c =
     let a = c.args in
     let w = a.work.now in
     let e = (λ i. cut (flux-is (goal.at.returns c).After-flux-1 i) (positive (out-is (goal.at.returns c).After-masses_start-masses i)) (positive (mass-is (goal.at.returns c).After-masses_start-masses i)))
-    ∙ ap (λ x. cut (at w (fluxes_start a.shape + a.f)) (positive (at w (outflows_start a.shape + x))) (positive (at w (masses_start a.shape + x)))) (donor-is (goal.at.returns c).After-donor-d) in
+    ∙ ap (λ x. cut (at w (fluxes_start a.grid.shape + a.f)) (positive (at w (outflows_start a.grid.shape + x))) (positive (at w (masses_start a.grid.shape + x)))) (donor-is (goal.at.returns c).After-donor-d) in
     are-eq (record { same = read_back w64 c.cut.ensures tt; bound = c.cut.ensures.bound }) e
 
 pub overflow_add-flux : goal.overflow_add-flux

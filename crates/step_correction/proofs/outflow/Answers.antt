@@ -11,18 +11,14 @@ use Rattle.whole.specs.Table.{at}
 use Rattle.whole.specs.Parts.{positive, negative}
 use Rattle.whole.proofs.Sizes.{sizes, fits, within, are-eq, back_is}
 use Rattle.rules.specs.Field.{elements, faces}
-use Rattle.rules.proofs.ShapeLaws.{elements-le}
-use Rattle.step_grid.proofs.PlaceLaws.{FaceOwners, face-owners}
+use Rattle.step_grid.proofs.PlaceLaws.{placed, FaceOwners, face-owners}
 use Rattle.step_correction.proofs.Laws.{added}
 use Rattle.step_correction.proofs.outflow.Goals as goal
 use Rattle.step_correction.proofs.outflow.Goals.{After-south}
 
-pub overflow_mul-n : goal.overflow_mul-n
-overflow_mul-n c = record { fits = omega (arith, elements-le c.args.shape c.requires.placed.admits) }
-
 -- the four faces are there
-inside : (c : After-south) → FaceOwners c.args.shape c.args.e c.west-west.result c.south.result × (length c.args.fluxes.now ≡ faces c.args.shape)
-inside c = (face-owners c.requires.placed c.west-west.ensures c.south.ensures, c.requires.fluxes_len)
+inside : (c : After-south) → FaceOwners c.args.element.grid.shape c.args.element.index c.west-west.result c.south.result × (c.elements-n.result ≡ elements c.args.element.grid.shape) × (length c.args.fluxes.now ≡ faces c.args.element.grid.shape)
+inside c = (face-owners (placed c.args.element) c.west-west.ensures c.south.ensures, c.elements-n.ensures, c.requires.fluxes_len)
 
 pub positive-requires : goal.positive-requires
 positive-requires c = let h = c.requires.all_within in within (search sizes depth 20) tt
@@ -54,15 +50,15 @@ pub returns : goal.returns
 returns c =
     let f = c.args.fluxes.now in
     let h = c.requires.all_within in
-    let n = elements c.args.shape in
+    let n = c.elements-n.result in
     let a = c.negative-2.ensures in
     let b = c.positive-2.ensures in
     let d = c.negative.ensures in
     let e = c.positive.ensures in
-    let pe = back_is w64 (at f c.args.e) (h.all _) tt in
+    let pe = back_is w64 (at f c.args.element.index) (h.all _) tt in
     let pw = back_is w64 (at f c.west-west.result) (h.all _) tt ∙ ap (at f) c.west-west.ensures in
-    let pn = back_is w64 (at f (n + c.args.e)) (h.all _) tt in
-    let ps = back_is w64 (at f (n + c.south.result)) (h.all _) tt ∙ ap (λ x. at f (n + x)) c.south.ensures in
+    let pn = back_is w64 (at f (n + c.args.element.index)) (h.all _) tt ∙ ap (λ m. at f (m + c.args.element.index)) c.elements-n.ensures in
+    let ps = back_is w64 (at f (n + c.south.result)) (h.all _) tt ∙ (λ j. at f (c.elements-n.ensures j + c.south.ensures j)) in
     are-eq (added _ _ _ _ _ _ _ _ e d b a) (λ i. pos (positive (pe i) + negative (pw i) + (positive (pn i) + negative (ps i))))
 
 pub overflow_add-south : goal.overflow_add-south
