@@ -19,6 +19,7 @@ use Rattle.rules.specs.Calls.{Operation, step, Lent, lengths_lent, wind_at, wind
 use Rattle.rules.proofs.AnswerLaws.{Passed, answer-ind, prefix-refused, prefix-accepted}
 use Rattle.rules.proofs.FieldLaws.{total-small, sound-there}
 use Rattle.rules.proofs.ShapeLaws.{ranges}
+use Rattle.field.proofs.CheckLaws.{call-refused}
 use Rattle.rules.proofs.PartLaws.{part-is-elements}
 use Rattle.step_upwind.specs.Upwind.{WindsInRange}
 
@@ -143,3 +144,15 @@ pub part-back : (g : Shape) (s at k : ℕ) (x new f : List ℕ) → at ≡ s * p
     → take at f ++ (x ++ drop k (drop at f)) ≡ with_part quadratic g s new f
 unfolding with_part overwrite
 part-back g s at k x new f ea ek ex size = rw (ea, ek ∙ sym (part-is-elements quadratic g) ∙ sym size, ex)
+
+-- what a step on the grid of a shape gives is what it gives on the shape
+pub on_shape : {a : Answer (Unit {0})} {f' : List ℕ} {r' : List ℤ} (w' : List ℤ) {g h : Shape} (s : ℕ) (o : Operation Lent) (f : List ℕ) (r w : List ℤ) → g ≡ h
+    → (a ≡ plain (call quadratic g s o f).reply) × ((f' ≡ (call quadratic g s o f).field) × ((r' ≡ report_after (call quadratic g s o f).reply r) × WorkAfter g (call quadratic g s o f).reply w w'))
+    → (a ≡ plain (call quadratic h s o f).reply) × ((f' ≡ (call quadratic h s o f).field) × ((r' ≡ report_after (call quadratic h s o f).reply r) × WorkAfter h (call quadratic h s o f).reply w w'))
+on_shape {a} {f'} {r'} w' s o f r w e h =
+    subst (λ k. (a ≡ plain (call quadratic k s o f).reply) × ((f' ≡ (call quadratic k s o f).field) × ((r' ≡ report_after (call quadratic k s o f).reply r) × WorkAfter k (call quadratic k s o f).reply w w'))) e h
+
+-- a refused step leaves every buffer
+pub left : (g : Shape) (s : ℕ) (o : Operation Lent) (f : List ℕ) (r w : List ℤ) (n : ℕ) → (call quadratic g s o f).reply ≡ refused n
+    → (refused n ≡ plain (call quadratic g s o f).reply) × ((f ≡ (call quadratic g s o f).field) × ((r ≡ report_after (call quadratic g s o f).reply r) × WorkAfter g (call quadratic g s o f).reply w w))
+left g s o f r w n e = let q = call-refused g s o f n e in (q.0, (q.1, (report-refused _ n r e, work-refused g _ n w e)))

@@ -140,7 +140,7 @@ module _ {g : Shape} {wind : List ℤ} {p : List ℕ} (given : Given g wind p) w
   before-stage {w} m l h = ready g c p admits given.winds.small number_small m w l h
 
   pub before-fluxes : {w : List ℤ} → Passed 3 w → Staged g w
-  before-fluxes {w} h = record { admits = admits; long = h.long; small = stages-small g c p admits given.winds.small number_small 3 w (omega arith) h }
+  before-fluxes {w} h = record { long = h.long; small = stages-small g c p admits given.winds.small number_small 3 w (omega arith) h }
 
   -- ---- after the fluxes
   pub record Fluxed (w : List ℤ) : Type 0 where
@@ -162,7 +162,7 @@ module _ {g : Shape} {wind : List ℤ} {p : List ℕ} (given : Given g wind p) w
   lent_at w h f l = part_at (faces g) (fluxes_start g) (faces g) w f (pos 0) refl l ∙ h.flux f l
 
   pub before-amounts : {w : List ℤ} → Fluxed w → BeforeAmounts g p w
-  before-amounts {w} h = record { admits = admits; numbers = given.numbers; within-limit = mass-small; long = h.long; small = record { all = λ f. go f (dec_lt f (faces g)) } }
+  before-amounts {w} h = record { numbers = given.numbers; within-limit = mass-small; long = h.long; small = record { all = λ f. go f (dec_lt f (faces g)) } }
     where
       go : (f : ℕ) → Dec (f < faces g) → Within flux_size (at (lent_fluxes g w) f)
       go f (yes l) = subst (Within flux_size) (sym (lent_at w h f l)) (within-le (G-small f l) (omega arith))
@@ -243,7 +243,6 @@ module _ {g : Shape} {wind : List ℤ} {p : List ℕ} (given : Given g wind p) w
 
     pub before-limit : Amounts g w
     before-limit = record {
-      admits = admits;
       long = h.fluxes.long;
       fluxes = λ f l. subst (Within flux_size) (sym (h.fluxes.flux f l)) (within-le (G-small f l) (omega arith));
       masses = mass-within;

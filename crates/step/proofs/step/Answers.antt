@@ -9,7 +9,6 @@ use native.Mathlib.Nat.{add-sub_cancel_left}
 use lib.ListN.{length, take, drop}
 use lib.Seq.{length-take-le}
 use Rattle.rules.proofs.AnswerLaws.{passed_on}
-use Rattle.rules.specs.Answers.{answered}
 use Rattle.rules.specs.Field.{quadratic, part, total}
 use Rattle.rules.specs.Step.{tracer_step}
 use Rattle.rules.specs.Calls.{step, lent, wind_at, done, call}
@@ -17,39 +16,35 @@ use Rattle.whole.specs.Table.{overwrite}
 use Rattle.rules.proofs.PartLaws.{length-part, part-is-elements}
 use Rattle.rules.proofs.StepLaws.{length-after}
 use Rattle.rules.specs.Stages.{stages}
-use Rattle.field.proofs.CheckLaws.{call-refused, call-accepted}
+use Rattle.field_layout.proofs.GridLaws.{refused-2}
+use Rattle.field.proofs.CheckLaws.{call-accepted, call-bad-shape}
 use Rattle.field_layout.proofs.PlaceLaws.{field_is, field-le, tracer-room}
-use Rattle.step.proofs.CheckLaws.{Stepping, stepping, plain-refused, report-refused, report-accepted, work-refused, work-accepted, part-back}
+use Rattle.step.proofs.CheckLaws.{Stepping, stepping, plain-refused, report-accepted, work-accepted, left, on_shape, part-back}
 use Rattle.step.proofs.step.Goals as goal
 use Rattle.step.proofs.step.Goals.{After-elements_length, After-work-1, After-work_needed-needed, In_ok-check}
 
 -- what the checks have shown
-facts : (c : In_ok-check) → Stepping c.args.shape c.args.tracer c.args.field.now c.args.wind.now (length c.args.report.now) (length c.args.work.now)
-facts c = stepping c.args.shape c.args.tracer c.args.field.now c.args.wind.now (length c.args.report.now) (length c.args.work.now) (sym c.in_ok-check.ensures)
+facts : (c : In_ok-check) → Stepping c.in_ok-grid.grid.shape c.args.tracer c.args.field.now c.args.wind.now (length c.args.report.now) (length c.args.work.now)
+facts c = stepping c.in_ok-grid.grid.shape c.args.tracer c.args.field.now c.args.wind.now (length c.args.report.now) (length c.args.work.now) (sym c.in_ok-check.ensures)
 
 pub tracer_start-start-requires : goal.tracer_start-start-requires
-tracer_start-start-requires c = let h = facts (goal.at.tracer_start-start-requires c).In_ok-check in record { admitted = h.shape; tracer_lt_tracers = h.tracer }
-
-pub elements_length-requires : goal.elements_length-requires
-elements_length-requires c = (facts (goal.at.elements_length-requires c).In_ok-check).shape
+tracer_start-start-requires c = (facts (goal.at.tracer_start-start-requires c).In_ok-check).tracer
 
 -- the tracer's part ends within the field, and what is lent is that part
 ends : (c : After-elements_length) → (c.tracer_start-start.result + c.elements_length.result ≤ length c.args.field.now) × (c.tracer_start-start.result + c.elements_length.result ≤ 327680)
 ends c =
     let a = c.args in
+    let g = c.in_ok-grid.grid.shape in
     let h = facts c.before.before in
-    let r = tracer-room a.shape a.tracer h.tracer in
-    (omega (arith, r, h.room, c.tracer_start-start.ensures, c.elements_length.ensures, part-is-elements quadratic a.shape), omega (arith, r, field_is a.shape, field-le a.shape h.shape, c.tracer_start-start.ensures, c.elements_length.ensures, part-is-elements quadratic a.shape))
+    let r = tracer-room g a.tracer h.tracer in
+    (omega (arith, r, h.room, c.tracer_start-start.ensures, c.elements_length.ensures, part-is-elements quadratic g), omega (arith, r, field_is g, field-le g h.shape, c.tracer_start-start.ensures, c.elements_length.ensures, part-is-elements quadratic g))
 
-lent_is : (c : After-elements_length) → take (c.tracer_start-start.result + c.elements_length.result - c.tracer_start-start.result) (drop c.tracer_start-start.result c.args.field.now) ≡ part quadratic c.args.shape c.args.tracer c.args.field.now
+lent_is : (c : After-elements_length) → take (c.tracer_start-start.result + c.elements_length.result - c.tracer_start-start.result) (drop c.tracer_start-start.result c.args.field.now) ≡ part quadratic c.in_ok-grid.grid.shape c.args.tracer c.args.field.now
 unfolding part
-lent_is c = rw (add-sub_cancel_left c.tracer_start-start.result c.elements_length.result, c.tracer_start-start.ensures, c.elements_length.ensures, ← (part-is-elements quadratic c.args.shape))
+lent_is c = rw (add-sub_cancel_left c.tracer_start-start.result c.elements_length.result, c.tracer_start-start.ensures, c.elements_length.ensures, ← (part-is-elements quadratic c.in_ok-grid.grid.shape))
 
 pub overflow_add-end : goal.overflow_add-end
 overflow_add-end c = record { fits = omega (arith, ends (goal.at.overflow_add-end c).After-elements_length) }
-
-pub work_needed-needed-requires : goal.work_needed-needed-requires
-work_needed-needed-requires c = (facts (goal.at.work_needed-needed-requires c).In_ok-check).shape
 
 pub offset_bounds-field-start : goal.offset_bounds-field-start
 offset_bounds-field-start c = omega (arith, ends (goal.at.offset_bounds-field-start c).After-elements_length)
@@ -73,16 +68,25 @@ slice_bounds-step-end-3 c = sym (lent-long (goal.at.slice_bounds-step-end-3 c).A
 pub step-requires : goal.step-requires
 step-requires c =
     let a = c.args in
+    let g = c.in_ok-grid.grid.shape in
     let h = facts (goal.at.step-requires c).In_ok-check in
-    record { admitted = h.shape; part_len = ap length (lent_is (goal.at.step-requires c).After-elements_length) ∙ length-part quadratic a.shape a.tracer a.field.now h.tracer h.room ∙ part-is-elements quadratic a.shape; part_bound = omega (arith, ap (total quadratic a.shape) (lent_is (goal.at.step-requires c).After-elements_length), h.within-limit); winds_in_range = h.wind-range; shape_in_bounds = h.reports; shape_in_bounds_2 = omega (arith, lent-long (goal.at.step-requires c).After-work_needed-needed, c.work_needed-needed.ensures) }
+    record { part_len = ap length (lent_is (goal.at.step-requires c).After-elements_length) ∙ length-part quadratic g a.tracer a.field.now h.tracer h.room ∙ part-is-elements quadratic g; part_bound = omega (arith, ap (total quadratic g) (lent_is (goal.at.step-requires c).After-elements_length), h.within-limit); winds_in_range = h.wind-range; shape_in_bounds = h.reports; shape_in_bounds_2 = omega (arith, lent-long (goal.at.step-requires c).After-work_needed-needed, c.work_needed-needed.ensures) }
+
+pub returns-in_err-grid : goal.returns-in_err-grid
+returns-in_err-grid c =
+    let a = c.args in
+    let op = step (lent a.wind.now a.report.now a.work.now) in
+    let p = left a.shape a.tracer op a.field.now a.report.now a.work.now 2 (call-bad-shape a.shape a.tracer op a.field.now c.in_err-grid.ensures.0) in
+    (refused-2 a.shape c.from_residual.result _ c.from_residual.ensures.1 c.in_err-grid.ensures ∙ p.0, p.1)
 
 pub returns-in_err-check : goal.returns-in_err-check
 returns-in_err-check c =
     let a = c.args in
-    let l = lent a.wind.now a.report.now a.work.now in
-    let e = plain-refused (call quadratic a.shape a.tracer (step l) a.field.now).reply _ (sym c.in_err-check.ensures) in
-    let q = call-refused a.shape a.tracer (step l) a.field.now _ e in
-    (passed_on c.from_residual.result _ c.from_residual.ensures.1 ∙ q.0, (q.1, (report-refused _ _ a.report.now e, work-refused a.shape _ _ a.work.now e)))
+    let g = c.in_ok-grid.grid.shape in
+    let op = step (lent a.wind.now a.report.now a.work.now) in
+    let r = c.from_residual-in_err-check in
+    let p = on_shape _ a.tracer op a.field.now a.report.now a.work.now c.in_ok-grid.ensures.1 (left g a.tracer op a.field.now a.report.now a.work.now _ (plain-refused (call quadratic g a.tracer op a.field.now).reply _ (sym c.in_err-check.ensures))) in
+    (passed_on r.result _ r.ensures.1 ∙ p.0, p.1)
 
 pub shape_of-work : goal.shape_of-work
 shape_of-work c = search rules
@@ -91,20 +95,22 @@ pub returns : goal.returns
 unfolding done tracer_step
 returns c =
     let a = c.args in
+    let g = c.in_ok-grid.grid.shape in
     let s = c.tracer_start-start in
     let n = c.elements_length.result in
     let h = facts (goal.at.returns c).In_ok-check in
     let l = lent a.wind.now a.report.now a.work.now in
     let w = wind_at a.wind.now in
-    let p = part quadratic a.shape a.tracer a.field.now in
+    let p = part quadratic g a.tracer a.field.now in
     let x = c.step.new.work in
     let back : length x ≡ length (take c.work_needed-needed.result a.work.now) = c.work-1.given.0 in
     let e = h.answers in
-    let q = call-accepted a.shape a.tracer (step l) a.field.now _ e in (
+    let q = call-accepted g a.tracer (step l) a.field.now _ e in
+    on_shape _ a.tracer (step l) a.field.now a.report.now a.work.now c.in_ok-grid.ensures.1 (
       q.0,
       (
-        part-back a.shape a.tracer s.result (s.result + n - s.result) _ (tracer_step quadratic a.shape w p).part a.field.now s.ensures (add-sub_cancel_left s.result n ∙ c.elements_length.ensures)
-            (c.step.ensures.part_after ∙ ap (λ x. (tracer_step quadratic a.shape w x).part) (lent_is (goal.at.returns c).After-elements_length)) (length-after quadratic a.shape h.shape.nx-above h.shape.ny-above w p (stages quadratic a.shape w p)) ∙ q.1,
-        (c.step.ensures.report_after ∙ ap (λ x. overwrite 0 (tracer_step quadratic a.shape w x).report a.report.now) (lent_is (goal.at.returns c).After-elements_length) ∙ report-accepted _ _ a.report.now e, work-accepted a.shape _ _ a.work.now x _ e (ap (λ k. x ++ drop k a.work.now) c.work_needed-needed.ensures) (back ∙ lent-long (goal.at.returns c).After-work_needed-needed ∙ c.work_needed-needed.ensures) (search rules)),
+        part-back g a.tracer s.result (s.result + n - s.result) _ (tracer_step quadratic g w p).part a.field.now s.ensures (add-sub_cancel_left s.result n ∙ c.elements_length.ensures)
+            (c.step.ensures.part_after ∙ ap (λ x. (tracer_step quadratic g w x).part) (lent_is (goal.at.returns c).After-elements_length)) (length-after quadratic g h.shape.nx-above h.shape.ny-above w p (stages quadratic g w p)) ∙ q.1,
+        (c.step.ensures.report_after ∙ ap (λ x. overwrite 0 (tracer_step quadratic g w x).report a.report.now) (lent_is (goal.at.returns c).After-elements_length) ∙ report-accepted _ _ a.report.now e, work-accepted g _ _ a.work.now x _ e (ap (λ k. x ++ drop k a.work.now) c.work_needed-needed.ensures) (back ∙ lent-long (goal.at.returns c).After-work_needed-needed ∙ c.work_needed-needed.ensures) (search rules)),
       ),
     )

@@ -13,7 +13,6 @@ use Rattle.whole.proofs.OverwriteLaws.{part-size}
 use Rattle.whole.proofs.Sizes.{read_back}
 use Rattle.whole.proofs.WrittenLaws.{written_none, written_next, written-moved}
 use Rattle.rules.specs.Field.{quadratic, elements, faces, mass, limit}
-use Rattle.rules.proofs.ShapeLaws.{elements-le}
 use Rattle.rules.specs.Sizes.{flux_size}
 use Rattle.field_layout.proofs.PlaceLaws.{elements-are}
 use Rattle.step_layout.specs.Sections.{fluxes_start, masses_start, outflows_start}

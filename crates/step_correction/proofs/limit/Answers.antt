@@ -5,7 +5,7 @@ use lib.ListN.{length-set}
 use Rattle.whole.specs.Bound.{Are}
 use Rattle.whole.proofs.Sizes.{sizes, exacts, fits, exact}
 use Rattle.whole.proofs.WrittenLaws.{written_none, written-store, written-moved}
-use Rattle.rules.specs.Field.{elements, north_face, limit}
+use Rattle.rules.specs.Field.{elements, limit}
 use Rattle.rules.specs.Sizes.{most_elements}
 use Rattle.rules.proofs.ShapeLaws.{elements-le}
 use Rattle.step_grid.specs.Place.{Placed}

@@ -14,7 +14,6 @@ use Rattle.rules.specs.Field.{quadratic, limit}
 use Rattle.rules.specs.Stages.{tendency}
 use Rattle.rules.specs.Calls.{wind_at}
 use Rattle.rules.specs.Sizes.{stage_size, tendency_size, earlier_sum_size}
-use Rattle.rules.proofs.ShapeLaws.{elements-le}
 use Rattle.step_layout.specs.Sections.{stage_length, stage_start, sums_start}
 use Rattle.step_layout.proofs.Laws.{next-stage, stage-ends, lent-kept, Room, work-room}
 use Rattle.step_grid.specs.Place.{Placed}

@@ -10,7 +10,6 @@ use Rattle.whole.proofs.OverwriteLaws.{part-size}
 use Rattle.whole.proofs.TableLaws.{fill-block, length-filled}
 use Rattle.rules.specs.Field.{quadratic, elements}
 use Rattle.rules.specs.Limiter.{closed}
-use Rattle.rules.proofs.ShapeLaws.{elements-le}
 use Rattle.field_layout.proofs.PlaceLaws.{elements-are}
 use Rattle.step_layout.specs.Sections.{stage_start}
 use Rattle.step_layout.proofs.Laws.{most_used, places-le}
@@ -20,27 +19,24 @@ use Rattle.step.proofs.Laws.{new-length, lent-values}
 use Rattle.step.proofs.tracer.finish.Goals as goal
 use Rattle.step.proofs.tracer.finish.Goals.{At-loop-e, In-loop-e, Start}
 
-pub overflow_mul-n : goal.overflow_mul-n
-overflow_mul-n c = record { fits = omega (arith, elements-le c.args.shape c.requires.admitted) }
-
 pub loop-e-init : goal.loop-e-init
 unfolding blocks
 loop-e-init c = (omega arith, omega arith, omega arith, refl)
 
-placed : (c : In-loop-e) → Placed c.args.shape c.loop-e.e
-placed c = record { admits = c.requires.admitted; inside = omega arith }
+placed : (c : In-loop-e) → Placed c.args.grid.shape c.loop-e.e
+placed c = record { admits = c.args.grid.admitted; inside = omega (arith, c.elements-n.ensures) }
 
 -- the part has ten numbers an element, and keeps them
-ten : (c : Start) → length c.args.part.now ≡ elements c.args.shape * 10
-ten c = c.requires.part_len ∙ elements-are c.args.shape
+ten : (c : Start) → length c.args.part.now ≡ elements c.args.grid.shape * 10
+ten c = c.requires.part_len ∙ elements-are c.args.grid.shape
 
 long : (c : At-loop-e) → length c.loop-e.part ≡ length c.args.part.now
 long c =
     let a = c.args in
-    ap length c.loop-e.invariant.3 ∙ length-filled 10 (new_element a.shape a.work.now a.report.now) (new-length a.shape a.work.now a.report.now) c.loop-e.e a.part.now (omega (arith, c.loop-e.invariant.0, ten c.before.before.before.before))
+    ap length c.loop-e.invariant.3 ∙ length-filled 10 (new_element a.grid.shape a.work.now a.report.now) (new-length a.grid.shape a.work.now a.report.now) c.loop-e.e a.part.now (omega (arith, c.loop-e.invariant.0, ten c.before.before.before.before))
 
 -- a turn's numbers are within part and work
-psi-is : (c : At-loop-e) → c.loop-e.psi ≡ stage_start c.args.shape 3 + c.loop-e.e * 9
+psi-is : (c : At-loop-e) → c.loop-e.psi ≡ stage_start c.args.grid.shape 3 + c.loop-e.e * 9
 psi-is c = omega (arith, c.loop-e.invariant.2, c.stage_start-psi.ensures)
 
 ends : (c : In-loop-e) → let l = c.loop-e in
@@ -49,26 +45,29 @@ ends : (c : In-loop-e) → let l = c.loop-e in
 ends c =
     let l = c.loop-e in
     let p = (placed c).inside in
-    let k = places-le c.args.shape c.requires.admitted in
+    let k = places-le c.args.grid.shape c.args.grid.admitted in
     (omega (arith, p, l.invariant.1, long c.before, ten c.before.before.before.before.before), omega (arith, p, psi-is c.before, c.requires.finished.long), omega (arith, p, l.invariant.1, k), omega (arith, p, psi-is c.before, k))
 
 pub target-goal-requires : goal.target-goal-requires
-target-goal-requires c = record { finished = c.requires.finished; placed = placed (goal.at.target-goal-requires c).In-loop-e }
+target-goal-requires c = c.requires.finished
+
+pub invariant_of-target : goal.invariant_of-target
+invariant_of-target c = record { inside = omega (arith, c.elements-n.ensures) }
 
 pub close-requires : goal.close-requires
 close-requires c =
-    let l = c.loop-e in record { part_len = part-size 10 l.start (l.start + 10 - l.start) l.part (add-sub_cancel_left l.start 10) (ends (goal.at.close-requires c).In-loop-e).0; tentative = (lent-values c.args.shape c.args.work.now c.args.report.now l.e l.psi (l.psi + 9 - l.psi) c.requires.finished (placed (goal.at.close-requires c).In-loop-e).inside (psi-is (goal.at.close-requires c).At-loop-e) (add-sub_cancel_left l.psi 9)).0; target_le_target_size = c.target-goal.ensures.1 }
+    let l = c.loop-e in record { part_len = part-size 10 l.start (l.start + 10 - l.start) l.part (add-sub_cancel_left l.start 10) (ends (goal.at.close-requires c).In-loop-e).0; tentative = (lent-values c.args.grid.shape c.args.work.now c.args.report.now l.e l.psi (l.psi + 9 - l.psi) c.requires.finished (placed (goal.at.close-requires c).In-loop-e).inside (psi-is (goal.at.close-requires c).At-loop-e) (add-sub_cancel_left l.psi 9)).0; target_le_target_size = c.target-goal.ensures.1 }
 
 pub loop-e-preserved : goal.loop-e-preserved
 loop-e-preserved c =
     let a = c.args in
     let l = c.loop-e in
     let w = a.work.now in
-    let new = new_element a.shape w a.report.now in
+    let new = new_element a.grid.shape w a.report.now in
     let t = c.target-goal.ensures.0 in
-    let v = (lent-values a.shape w a.report.now l.e l.psi (l.psi + 9 - l.psi) c.requires.finished (placed (goal.at.loop-e-preserved c).In-loop-e).inside (psi-is (goal.at.loop-e-preserved c).At-loop-e) (add-sub_cancel_left l.psi 9)).1 in
+    let v = (lent-values a.grid.shape w a.report.now l.e l.psi (l.psi + 9 - l.psi) c.requires.finished (placed (goal.at.loop-e-preserved c).In-loop-e).inside (psi-is (goal.at.loop-e-preserved c).At-loop-e) (add-sub_cancel_left l.psi 9)).1 in
     let x = c.close.ensures ∙ ap (closed quadratic (at (take (l.psi + 9 - l.psi) (drop l.psi w)))) t ∙ v in
-    (omega arith, omega (arith, l.invariant.1), omega (arith, l.invariant.2), rw l.invariant.1 (fill-block 10 new (new-length a.shape w a.report.now) l.e (l.e * 10 + 10 - l.e * 10) _ a.part.now l.part (add-sub_cancel_left (l.e * 10) 10) x l.invariant.3))
+    (omega arith, omega (arith, l.invariant.1), omega (arith, l.invariant.2), rw l.invariant.1 (fill-block 10 new (new-length a.grid.shape w a.report.now) l.e (l.e * 10 + 10 - l.e * 10) _ a.part.now l.part (add-sub_cancel_left (l.e * 10) 10) x l.invariant.3))
 
 pub shape_of-part : goal.shape_of-part
 shape_of-part c = long (goal.at.shape_of-part c).At-loop-e
@@ -76,9 +75,9 @@ shape_of-part c = long (goal.at.shape_of-part c).At-loop-e
 pub returns : goal.returns
 returns c =
     let a = c.args in
-    let n = elements a.shape in
-    let e : c.loop-e.e ≡ n = omega arith in
-    (rw e at c.loop-e.invariant.3) ∙ ap (λ y. blocks n (new_element a.shape a.work.now a.report.now) ++ y) (drop_of_length-le a.part.now {i = n * 10} (omega (arith, ten (goal.at.returns c).Start))) ∙ append-nil _
+    let n = elements a.grid.shape in
+    let e : c.loop-e.e ≡ n = omega (arith, c.elements-n.ensures) in
+    (rw e at c.loop-e.invariant.3) ∙ ap (λ y. blocks n (new_element a.grid.shape a.work.now a.report.now) ++ y) (drop_of_length-le a.part.now {i = n * 10} (omega (arith, ten (goal.at.returns c).Start))) ∙ append-nil _
 
 pub overflow_add-end : goal.overflow_add-end
 overflow_add-end c = let h = ends (goal.at.overflow_add-end c).In-loop-e in search rules

@@ -8,4 +8,4 @@ use Rattle.step.specs.Finish.{new_element}
 use Rattle.step.proofs.tracer.finish.Given as goal
 
 abbrev pub invariant-loop-e : goal.invariant-loop-e
-invariant-loop-e l = (l.e ≤ l.n) × (l.start ≡ l.e * 10) × (l.psi ≡ l.initial.psi + l.e * 9) × (l.part ≡ blocks l.e (new_element l.shape l.work l.report) ++ drop (l.e * 10) l.initial.part)
+invariant-loop-e l = (l.e ≤ l.n) × (l.start ≡ l.e * 10) × (l.psi ≡ l.initial.psi + l.e * 9) × (l.part ≡ blocks l.e (new_element l.grid.shape l.work l.report) ++ drop (l.e * 10) l.initial.part)

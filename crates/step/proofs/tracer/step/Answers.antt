@@ -10,33 +10,33 @@ use Rattle.step.proofs.TracerLaws.{Given, Passed, stage-0, stage-next, before-st
 use Rattle.step.proofs.tracer.step.Goals as goal
 use Rattle.step.proofs.tracer.step.Goals.{After-advance, After-advance-2, After-advance-3, After-amounts, After-fluxes, After-start, Start}
 
-given : (c : Start) → Given c.args.shape c.args.wind.now c.args.part.now
-given c = record { admits = c.requires.admitted; winds = c.requires.winds_in_range; numbers = c.requires.part_len; within-limit = c.requires.part_bound }
+given : (c : Start) → Given c.args.grid.shape c.args.wind.now c.args.part.now
+given c = record { admits = c.args.grid.admitted; winds = c.requires.winds_in_range; numbers = c.requires.part_len; within-limit = c.requires.part_bound }
 
-used : (c : Start) → work_used c.args.shape ≤ length c.args.work.now
-used c = omega (arith, c.requires.shape_in_bounds_2, used_le c.args.shape)
+used : (c : Start) → work_used c.args.grid.shape ≤ length c.args.work.now
+used c = omega (arith, c.requires.shape_in_bounds_2, used_le c.args.grid.shape)
 
 -- ---- what work holds after each pass, and so what the next one asks
 pub start-requires : goal.start-requires
-start-requires c = record { admitted = c.requires.admitted; part_len = c.requires.part_len; shape_in_bounds = used (goal.at.start-requires c).Start }
+start-requires c = record { part_len = c.requires.part_len; shape_in_bounds = used (goal.at.start-requires c).Start }
 
 passed-0 : (c : After-start) → Passed (given c.before.before.before) 0 c.start.new.work
 passed-0 c = stage-0 (given c.before.before.before) (used c.before.before.before) c.start.ensures
 
 pub advance-requires : goal.advance-requires
-advance-requires c = record { admitted = c.requires.admitted; winds_in_range = c.requires.winds_in_range; stage_bound = omega arith; ready = before-stage (given (goal.at.advance-requires c).Start) 0 (omega arith) (passed-0 (goal.at.advance-requires c).After-start) }
+advance-requires c = record { winds_in_range = c.requires.winds_in_range; stage_bound = omega arith; ready = before-stage (given (goal.at.advance-requires c).Start) 0 (omega arith) (passed-0 (goal.at.advance-requires c).After-start) }
 
 passed-1 : (c : After-advance) → Passed (given c.before.before.before.before.before.before) 1 c.advance.new.work
 passed-1 c = stage-next (given c.before.before.before.before.before.before) 0 (omega arith) (passed-0 c.before.before.before) c.advance.ensures
 
 pub advance-requires-2 : goal.advance-requires-2
-advance-requires-2 c = record { admitted = c.requires.admitted; winds_in_range = c.requires.winds_in_range; stage_bound = omega arith; ready = before-stage (given (goal.at.advance-requires-2 c).Start) 1 (omega arith) (passed-1 (goal.at.advance-requires-2 c).After-advance) }
+advance-requires-2 c = record { winds_in_range = c.requires.winds_in_range; stage_bound = omega arith; ready = before-stage (given (goal.at.advance-requires-2 c).Start) 1 (omega arith) (passed-1 (goal.at.advance-requires-2 c).After-advance) }
 
 passed-2 : (c : After-advance-2) → Passed (given c.before.before.before.before.before.before.before.before.before) 2 c.advance-2.new.work
 passed-2 c = stage-next (given c.before.before.before.before.before.before.before.before.before) 1 (omega arith) (passed-1 c.before.before.before) c.advance-2.ensures
 
 pub advance-requires-3 : goal.advance-requires-3
-advance-requires-3 c = record { admitted = c.requires.admitted; winds_in_range = c.requires.winds_in_range; stage_bound = omega arith; ready = before-stage (given (goal.at.advance-requires-3 c).Start) 2 (omega arith) (passed-2 (goal.at.advance-requires-3 c).After-advance-2) }
+advance-requires-3 c = record { winds_in_range = c.requires.winds_in_range; stage_bound = omega arith; ready = before-stage (given (goal.at.advance-requires-3 c).Start) 2 (omega arith) (passed-2 (goal.at.advance-requires-3 c).After-advance-2) }
 
 passed-3 : (c : After-advance-3) → Passed (given c.before.before.before.before.before.before.before.before.before.before.before.before) 3 c.advance-3.new.work
 passed-3 c = stage-next (given c.before.before.before.before.before.before.before.before.before.before.before.before) 2 (omega arith) (passed-2 c.before.before.before) c.advance-3.ensures
@@ -58,7 +58,7 @@ limit-requires c = record { amounts = before-limit (given (goal.at.limit-require
 
 pub finish-requires : goal.finish-requires
 finish-requires c =
-    record { admitted = c.requires.admitted; part_len = c.requires.part_len; finished = before_finish (given (goal.at.finish-requires c).Start) (after-amounts (goal.at.finish-requires c).After-amounts) c.requires.shape_in_bounds c.limit.ensures }
+    record { part_len = c.requires.part_len; finished = before_finish (given (goal.at.finish-requires c).Start) (after-amounts (goal.at.finish-requires c).After-amounts) c.requires.shape_in_bounds c.limit.ensures }
 
 pub shape_of-report : goal.shape_of-report
 shape_of-report c = c.limit.ensures.long

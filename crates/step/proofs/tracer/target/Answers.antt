@@ -11,38 +11,34 @@ use Rattle.whole.specs.Bound.{Within}
 use Rattle.whole.specs.Parts.{positive}
 use Rattle.whole.proofs.Sizes.{sizes, fits}
 use Rattle.whole.proofs.WholeLaws.{pos-positive, above-positive}
-use Rattle.rules.specs.Field.{elements, faces, north_face, limit}
+use Rattle.rules.specs.Field.{elements, faces, limit}
 use Rattle.rules.specs.Correction.{target}
 use Rattle.rules.specs.Sizes.{target_size}
-use Rattle.rules.proofs.ShapeLaws.{elements-le}
 use Rattle.step_layout.specs.Sections.{masses_start}
 use Rattle.step_layout.proofs.Laws.{Room, work-room}
-use Rattle.step_grid.proofs.PlaceLaws.{FaceOwners, face-owners}
+use Rattle.step_grid.proofs.PlaceLaws.{placed, FaceOwners, face-owners}
 use Rattle.step.specs.Finish.{mass_of}
 use Rattle.step.proofs.Laws.{B, C, Balanced, read-sum, sum-within, positive-small}
 use Rattle.step.proofs.tracer.target.Goals as goal
 use Rattle.step.proofs.tracer.target.Goals.{After-all-2-1, After-south}
 
-pub overflow_mul-n : goal.overflow_mul-n
-overflow_mul-n c = record { fits = omega (arith, elements-le c.args.shape c.requires.placed.admits) }
-
 -- the element and the four faces are there
 inside : (c : After-south) → let a = c.args in
-    FaceOwners a.shape a.e c.west-west.result c.south.result × (c.masses_start-masses.result ≡ masses_start a.shape)
-    × Room a.shape (length a.work.now) × (faces a.shape ≤ length a.report.now)
+    FaceOwners a.element.grid.shape a.element.index c.west-west.result c.south.result × (c.elements-n.result ≡ elements a.element.grid.shape) × (c.masses_start-masses.result ≡ masses_start a.element.grid.shape)
+    × Room a.element.grid.shape (length a.work.now) × (faces a.element.grid.shape ≤ length a.report.now)
 inside c =
-    (face-owners c.requires.placed c.west-west.ensures c.south.ensures, c.masses_start-masses.ensures, work-room c.args.shape c.requires.placed.admits c.requires.finished.long, c.requires.finished.wide)
+    (face-owners (placed c.args.element) c.west-west.ensures c.south.ensures, c.elements-n.ensures, c.masses_start-masses.ensures, work-room c.args.element.grid.shape c.args.element.grid.admitted c.requires.long, c.requires.wide)
 
 -- the sizes of what is read
 read : (c : After-south) → let a = c.args in
     let r = at a.report.now in
-    let n = elements a.shape in
-    Balanced (at a.work.now (c.masses_start-masses.result + a.e)) (r a.e) (r c.west-west.result) (r (n + a.e)) (r (n + c.south.result))
+    let n = c.elements-n.result in
+    Balanced (at a.work.now (c.masses_start-masses.result + a.element.index)) (r a.element.index) (r c.west-west.result) (r (n + a.element.index)) (r (n + c.south.result))
 read c =
-    let f = c.requires.finished in
+    let f = c.requires in
     let h = inside c in
     record {
-      mass = subst (λ n. Within limit (at c.args.work.now (n + c.args.e))) (sym c.masses_start-masses.ensures) (f.masses c.args.e c.requires.placed.inside).small;
+      mass = subst (λ n. Within limit (at c.args.work.now (n + c.args.element.index))) (sym c.masses_start-masses.ensures) (f.masses c.args.element.index c.args.element.inside).small;
       east = f.fluxes _ (omega (arith, h));
       west = f.fluxes _ (omega (arith, h));
       north = f.fluxes _ (omega (arith, h));
@@ -52,26 +48,26 @@ read c =
 -- the sum is the target, which is not below 0
 sum_is : (c : After-south) → let a = c.args in
     let r = at a.report.now in
-    let n = elements a.shape in
-    at a.work.now (c.masses_start-masses.result + a.e) -ℤ r a.e +ℤ r c.west-west.result -ℤ r (n + a.e) +ℤ r (n + c.south.result) ≡ target a.shape (mass_of a.shape a.work.now) r a.e
+    let n = c.elements-n.result in
+    at a.work.now (c.masses_start-masses.result + a.element.index) -ℤ r a.element.index +ℤ r c.west-west.result -ℤ r (n + a.element.index) +ℤ r (n + c.south.result) ≡ target a.element.grid.shape (mass_of a.element.grid.shape a.work.now) r a.element.index
 unfolding target
 sum_is c =
-    let g = c.args.shape in
+    let g = c.args.element.grid.shape in
     let r = at c.args.report.now in
-    let e = c.args.e in
-    let mass = ap (λ n. at c.args.work.now (n + e)) c.masses_start-masses.ensures ∙ above-positive _ (c.requires.finished.masses e c.requires.placed.inside).above in
-    λ i. mass i -ℤ r e +ℤ r (c.west-west.ensures i) -ℤ r (north_face g e) +ℤ r (north_face g (c.south.ensures i))
+    let e = c.args.element.index in
+    let mass = ap (λ n. at c.args.work.now (n + e)) c.masses_start-masses.ensures ∙ above-positive _ (c.requires.masses e c.args.element.inside).above in
+    λ i. mass i -ℤ r e +ℤ r (c.west-west.ensures i) -ℤ r (c.elements-n.ensures i + e) +ℤ r (c.elements-n.ensures i + c.south.ensures i)
 
 made : (c : After-all-2-1) → let a = c.args in
     let r = at a.report.now in
-    let n = elements a.shape in
-    B (B (B (B (B (at a.work.now (c.masses_start-masses.result + a.e)) -ℤ C (r a.e)) +ℤ C (r c.west-west.result)) -ℤ C (r (n + a.e))) +ℤ C (r (n + c.south.result)))
-    ≡ pos (positive (target a.shape (mass_of a.shape a.work.now) r a.e))
+    let n = c.elements-n.result in
+    B (B (B (B (B (at a.work.now (c.masses_start-masses.result + a.element.index)) -ℤ C (r a.element.index)) +ℤ C (r c.west-west.result)) -ℤ C (r (n + a.element.index))) +ℤ C (r (n + c.south.result)))
+    ≡ pos (positive (target a.element.grid.shape (mass_of a.element.grid.shape a.work.now) r a.element.index))
 made c =
-    read-sum (read c.before.before.before.before.before) ∙ sum_is c.before.before.before.before.before ∙ sym (pos-positive _ (c.requires.finished.targets c.args.e c.requires.placed.inside))
+    read-sum (read c.before.before.before.before.before) ∙ sum_is c.before.before.before.before.before ∙ sym (pos-positive _ (c.requires.targets c.args.element.index c.args.element.inside))
 
 size : (c : After-south) → let a = c.args in
-    positive (target a.shape (mass_of a.shape a.work.now) (at a.report.now) a.e) ≤ target_size
+    positive (target a.element.grid.shape (mass_of a.element.grid.shape a.work.now) (at a.report.now) a.element.index) ≤ target_size
 size c = positive-small _ (subst (Within target_size) (sum_is c) (sum-within (read c)))
 
 pub overflow_cast-result : goal.overflow_cast-result
