@@ -99,8 +99,8 @@ pub fn fresh(field: &mut [u32], winds: &mut [i16], shape: Shape) -> Result<(), R
     if winds.len() < faces {
         return Err(Refusal::ShortBuffer);
     }
-    field_elements::fill::clear(field, length);
-    field_elements::fill::clear_wind(winds, faces);
+    field[..length].fill(0);
+    winds[..faces].fill(0);
     Ok(())
 }
 

@@ -1,14 +1,14 @@
 -- Loops that fill a list from the front, by entries or by blocks: what holds at every turn, as a record, and what it says in the end.
 use mathlib.Core.Path.{◌≡◌, refl, sym, ap, ◌∙◌}
-use mathlib.Core.List.{List, [], ◌∷◌, ◌++◌, append-nil}
+use mathlib.Core.List.{List, ◌++◌, append-nil}
 use Prim.Native.Nat.{ℕ, ◌+◌, ◌*◌, ◌≤◌, ◌<◌}
 use native.Mathlib.Nat.{zero-mul, suc-mul}
 use native.Mathlib.Numerals.{add-one}
 use native.Mathlib.Omega.{arith}
-use lib.ListN.{length, set, take, drop, replicate, length-set, drop_of_length-le}
+use lib.ListN.{length, set, take, drop, length-set, drop_of_length-le}
 use Rattle.whole.specs.Table.{table, blocks, overwrite}
-use Rattle.whole.proofs.TableLaws.{length-blocks, fill-next, fill-last, fill-block, length-filled}
-use Rattle.whole.proofs.OverwriteLaws.{front-is, filled-front, table-const, part_room}
+use Rattle.whole.proofs.TableLaws.{length-blocks, fill-next, fill-block, length-filled}
+use Rattle.whole.proofs.OverwriteLaws.{front-is, filled-front, part_room}
 
 -- the first k of n entries are f's, the others those of l
 pub record Filled {A : Type 0} (f : ℕ → A) (l : List A) (n k : ℕ) (p : List A) : Type 0 where
@@ -31,17 +31,6 @@ module _ {A : Type 0} {f : ℕ → A} {l : List A} {n : ℕ} where
 
     pub filled-all : p ≡ overwrite 0 (table n f) l
     filled-all = all-filled ∙ filled-front n f l
-
-    -- a list of n entries; one more, which is set last
-    pub filled-whole : length l ≡ n → p ≡ table n f
-    filled-whole e = all-filled ∙ ap (λ y. table n f ++ y) (drop_of_length-le l {i = n} (omega arith)) ∙ append-nil (table n f)
-
-    pub filled-last : (x : A) → length l ≡ n + 1 → set p n x ≡ table n f ++ (x ∷ [])
-    filled-last x e = rw all-filled (fill-last n f l x e)
-
--- the same value everywhere
-pub filled-same : {A : Type 0} {a : A} {l : List A} {n k : ℕ} {p : List A} → Filled (λ _. a) l n k p → n ≤ k → p ≡ overwrite 0 (replicate n a) l
-filled-same {a} {l} {n} h end = filled-all h end ∙ ap (λ y. overwrite 0 y l) (table-const n a)
 
 -- the first k of n blocks of width w are f's, the rest is that of l
 pub record BlocksFilled {A : Type 0} (w : ℕ) (f : ℕ → List A) (l : List A) (n k : ℕ) (p : List A) : Type 0 where

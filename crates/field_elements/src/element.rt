@@ -6,6 +6,7 @@ ghost use Rattle.rules.specs.Calls.{emitted, withdrawn};
 ghost use Rattle.field_elements.specs.Weighing.{number_weight, weighed, most_weighed};
 
 use rules::element::{NODES, NUMBERS, node_weight};
+use std::array;
 
 // The weight of number v of an element: a node's, and 1 for the remainder.
 pub fn number_weight(v: usize) -> u64
@@ -21,9 +22,9 @@ pub fn weigh(numbers: &[u32], n: usize) -> u64
     ensures value { result ≡ weighed quadratic numbers.now 0 n }
     ensures upper_bound { result ≤ most_weighed }
 {
-    let mut sum: u64 = 0;
-    for v in 0..n {
-        sum += number_weight(v) * (numbers[v] as u64);
+    let mut sum = 0;
+    for (v, number) in numbers[..n].iter().enumerate() {
+        sum += number_weight(v) * u64::from(*number);
     }
     sum
 }
@@ -41,11 +42,7 @@ fn values(part: &[u32]) -> [i64; NODES]
     requires { length part.now ≡ 10 }
     ensures { result ≡ table 9 (λ k. pos (get_or part.now k 0)) }
 {
-    let mut psi = [0i64; NODES];
-    for k in 0..NODES {
-        psi[k] = part[k] as i64;
-    }
-    psi
+    array::from_fn(|k| i64::from(part[k]))
 }
 
 // Emission of q: closes the element to its mass and q more.

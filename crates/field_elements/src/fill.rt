@@ -1,33 +1,13 @@
 // Loops that fill a buffer from its front. Leaves: the buffer is long enough.
-ghost use Rattle.std.specs.Prelude.{◌≡◌, ◌*◌, ◌≤◌, pos, length, replicate};
+ghost use Rattle.std.specs.Prelude.{◌≡◌, ◌*◌, ◌≤◌, length};
 ghost use Rattle.whole.specs.Sum.{sum};
-ghost use Rattle.whole.specs.Table.{blocks, overwrite};
+ghost use Rattle.whole.specs.Table.{blocks};
 ghost use Rattle.rules.specs.Field.{quadratic, weighted};
 ghost use Rattle.rules.specs.Calls.{loaded_value, loaded_element};
 ghost use Rattle.rules.specs.Sizes.{most_elements};
 
 use super::element;
 use rules::element::{NODES, NUMBERS};
-
-// Zeros over the first n numbers.
-pub fn clear(field: &mut [u32], n: usize)
-    requires { n ≤ length field.old }
-    ensures { field.new ≡ overwrite 0 (replicate n 0) field.old }
-{
-    for k in 0..n {
-        field[k] = 0;
-    }
-}
-
-// Zeros over the first n wind numbers.
-pub fn clear_wind(winds: &mut [i16], n: usize)
-    requires { n ≤ length winds.old }
-    ensures { winds.new ≡ overwrite 0 (replicate n (pos 0)) winds.old }
-{
-    for f in 0..n {
-        winds[f] = 0;
-    }
-}
 
 // The total of n elements that are loaded with these numbers.
 pub fn loaded_total(numbers: &[u32], n: usize) -> u64
@@ -51,9 +31,7 @@ fn lay_element(part: &mut [u32], numbers: &[u32])
     requires numbers_len { length numbers.now ≡ 9 }
     ensures { part.new ≡ loaded_element quadratic numbers.now 0 }
 {
-    for k in 0..NODES {
-        part[k] = numbers[k];
-    }
+    part[..NODES].copy_from_slice(numbers);
     part[NODES] = 0;
 }
 

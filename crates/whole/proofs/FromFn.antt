@@ -8,9 +8,7 @@ use lib.ListN.{length, take}
 use lib.Seq.{take-length}
 use denote.Param.Members.{Mut}
 use Rattle.std.specs.Fn.{Called}
-use Rattle.std.specs.Array.{IsFromFnResult, IsFromFnResultFrom, index_steps}
-use Rattle.std.specs.Iterator.{CallableAtEachTurn}
-use Rattle.std.specs.List.{FoldsTo}
+use Rattle.std.specs.Array.{IsFromFnResult, IsFromFnResultFrom}
 use Rattle.std.proofs.lemmas.List.{take_more}
 use Rattle.whole.specs.Table.{table}
 use Rattle.whole.proofs.TableLaws.{table_more}
@@ -28,12 +26,3 @@ module _ {F B : Type 0} (g : Mut F (ℕ × Unit {0}) B) (h : ℕ → B) where
   pub table-from_fn : {n : ℕ} {f : F} {ys : List B} → ((k : ℕ) (y : B) (q : F) → k < n → Called g f (k, tt) y q → (q ≡ f) × (y ≡ h k)) → IsFromFnResult g f ys n → ys ≡ table n h
   unfolding table
   table-from_fn {n} {f} {ys} each r = sym (ap (λ k. take k ys) (sym r.long) ∙ take-length ys) ∙ entries n f ys each r.long n 0 (omega arith) refl r.each
-
--- it may be called at each place below n, if it may be called there as it is at first
-module _ {P : Type 0} (R : P → ℕ → P → Type 0) {p : P} (stays : (k : ℕ) (q : P) → R p k q → q ≡ p) where
-  unmoved : (xs : List ℕ) (q : P) → FoldsTo R p xs q → q ≡ p
-  unmoved [] q c = sym c
-  unmoved (x ∷ xs) q c = unmoved xs q (subst (λ k. FoldsTo R k xs q) (stays x c.0 c.1) c.2)
-
-  pub callable-from_fn : {Q : P → ℕ → Type 0} {n : ℕ} → ((k : ℕ) → k < n → Q p k) → CallableAtEachTurn (index_steps n) R Q 0 p
-  callable-from_fn {Q} h = record { at = λ xs t q x u y c e. subst (λ k. Q k x) (sym (unmoved xs q c)) (h x (omega arith)) }

@@ -7,7 +7,7 @@ use native.Mathlib.Nat.{suc-mul, mul-le-mul_right}
 use native.Mathlib.Decide.{dec_lt}
 use native.Mathlib.Numerals.{add-one}
 use native.Mathlib.Omega.{arith}
-use lib.ListN.{length, get_or, take, drop, take-append-drop, replicate, replicate-append-replicate, length-append, length-take, length-drop, get_or-append}
+use lib.ListN.{length, get_or, take, drop, take-append-drop, replicate, replicate-append-replicate, length-replicate, length-append, length-take, length-drop, get_or-append}
 use lib.Seq.{take-take, take-add, drop-drop, drop-append-le, length-take-le, drop_at, take_at, get_or-append-add, get_or-take, get_or-drop, ext_get_or}
 use Rattle.whole.specs.Table.{table, overwrite}
 use Rattle.whole.proofs.TableLaws.{length-table}
@@ -97,6 +97,10 @@ module _ {ℓ} {A : Type ℓ} where
   unfolding table
   table-const zero a = refl
   table-const (suc n) a = ap (λ l. l ++ (a ∷ [])) (table-const n a) ∙ replicate-append-replicate n 1 a ∙ ap (λ k. replicate k a) (add-one n)
+
+  -- the same value over the first n, as the library's `fill` leaves it
+  pub filled-part : (n : ℕ) (a : A) (l p : List A) → n ≤ length l → p ≡ replicate (length (take n l)) a → p ++ drop n l ≡ overwrite 0 (replicate n a) l
+  filled-part n a l p h e = rw (e, length-take-le n l h) (ap (λ m. replicate n a ++ drop m l) (sym (length-replicate n a)) ∙ sym (front-is (replicate n a) l))
 
   -- a list with ys in front, and beyond it the numbers of xs
   pub front-written : (d : A) (ys xs new : List A) → length new ≡ length xs → length ys ≤ length xs → ((i : ℕ) → i < length ys → get_or new i d ≡ get_or ys i d)

@@ -8,7 +8,7 @@ use native.Mathlib.Numerals.{add-one}
 use native.Mathlib.Omega.{arith}
 use lib.Arith.{digits_lt, digits_div, digits_mod}
 use lib.ListN.{length, get_or, set, take, drop, length-drop, drop_of_length-le, length-append, get_or-append, get_or-eq_default}
-use lib.Seq.{get_or-append-add, drop-cons, set_at, take_at, drop_at, drop-drop}
+use lib.Seq.{get_or-append-add, drop-cons, set_at, take_at, drop_at, drop-drop, take-suc}
 use Rattle.whole.specs.Table.{blocks, table}
 
 module _ {ℓ} {A : Type ℓ} where
@@ -61,6 +61,12 @@ module _ {ℓ} {A : Type ℓ} where
   unfolding blocks
   blocks-cong zero f g h = refl
   blocks-cong (suc n) f g h = λ i. blocks-cong n f g (λ j l. h j (omega arith)) i ++ h n (omega arith) i
+
+  -- the table of a list's own first entries
+  pub table-take : (n : ℕ) (l : List A) (d : A) → n ≤ length l → table n (λ i. get_or l i d) ≡ take n l
+  unfolding table
+  table-take zero l d h = refl
+  table-take (suc n) l d h = ap (λ x. x ++ (get_or l n d ∷ [])) (table-take n l d (omega arith)) ∙ sym (take-suc l n d (omega arith))
 
   -- a statement on every entry and on what stands for an entry that is not there
   pub table-all : (P : A → Type 0) (n : ℕ) (f : ℕ → A) (d : A) → P d → ((i : ℕ) → i < n → P (f i)) → (i : ℕ) → P (get_or (table n f) i d)

@@ -4,7 +4,9 @@ use Prim.Native.Nat.{◌≤◌}
 use native.Mathlib.Omega.{arith}
 use lib.IntN.{pos}
 use lib.ListN.{length, replicate}
+use Rattle.std.proofs.Common.{rules}
 use Rattle.whole.specs.Table.{overwrite}
+use Rattle.whole.proofs.OverwriteLaws.{filled-part}
 use Rattle.rules.specs.Field.{quadratic, faces, field_length}
 use Rattle.field_layout.proofs.GridLaws.{refused-2}
 use Rattle.field_layout.proofs.PlaceLaws.{is-admitted}
@@ -31,15 +33,9 @@ returns-then-field-length c = fresh-on-shape c.args.field.now c.args.winds.now c
 pub returns-then-winds-faces : goal.returns-then-winds-faces
 returns-then-winds-faces c = fresh-on-shape c.args.field.now c.args.winds.now c.in_ok-grid.ensures.1 (fresh-4-wind _ _ _ (is-admitted _ c.in_ok-grid.grid.admitted) (room (goal.at.returns-then-winds-faces c).Else-field-length) (omega (arith, c.faces-faces.ensures)))
 
-pub clear-requires : goal.clear-requires
-clear-requires c = omega arith
-
-pub clear_wind-requires : goal.clear_wind-requires
-clear_wind-requires c = omega arith
-
 pub returns : goal.returns
 returns c =
-    let f = c.clear.ensures ∙ ap (λ n. overwrite 0 (replicate n 0) c.args.field.now) c.field_length-length.ensures in
-    let w = c.clear_wind.ensures ∙ ap (λ n. overwrite 0 (replicate n (pos 0)) c.args.winds.now) c.faces-faces.ensures in
+    let f = filled-part c.field_length-length.result 0 c.args.field.now c.fill.new.self (omega arith) (c.fill.ensures.after (λ y h. search rules)) ∙ ap (λ n. overwrite 0 (replicate n 0) c.args.field.now) c.field_length-length.ensures in
+    let w = filled-part c.faces-faces.result (pos 0) c.args.winds.now c.fill-2.new.self (omega arith) (c.fill-2.ensures.after (λ y h. search rules)) ∙ ap (λ n. overwrite 0 (replicate n (pos 0)) c.args.winds.now) c.faces-faces.ensures in
     let d = fresh-done c.in_ok-grid.grid.shape c.args.field.now c.args.winds.now (is-admitted _ c.in_ok-grid.grid.admitted) (room (goal.at.returns c).Else-field-length) (room-wind (goal.at.returns c).Else-winds-faces) in
     fresh-on-shape c.args.field.now c.args.winds.now c.in_ok-grid.ensures.1 (d.0, (f ∙ d.1.0, w ∙ d.1.1))

@@ -1,5 +1,8 @@
-use mathlib.Core.Path.{◌≡◌, refl}
-use Prim.Native.Nat.{◌≤◌, ◌*◌, ◌^◌}
+use mathlib.Core.Path.{◌≡◌, refl, sym, subst, ◌∙◌}
+use mir.Syntax.{w32}
+use mir.Val.{Fits}
+use lib.Seq.{length-take-le, get_or-take}
+use Prim.Native.Nat.{◌≤◌, ◌<◌, ◌*◌, ◌^◌}
 use native.Mathlib.Nat.{zero-add}
 use native.Mathlib.Omega.{arith}
 use lib.ListN.{get_or}
@@ -8,32 +11,35 @@ use Rattle.rules.specs.Field.{quadratic}
 use Rattle.field_elements.specs.Weighing.{weighed}
 use Rattle.field_elements.proofs.ElementLaws.{weighs-small, weighed-more}
 use Rattle.field_elements.proofs.element.weigh.Goals as goal
-use Rattle.field_elements.proofs.element.weigh.Goals.{After-shared_slice_known-in-loop-v-1}
+use Rattle.field_elements.proofs.element.weigh.Goals.{After-from}
 
 pub loop-v-init : goal.loop-v-init
 unfolding weighed sum
 loop-v-init c = (omega arith, refl, omega arith)
 
--- what a turn adds
-added : (c : After-shared_slice_known-in-loop-v-1) → c.number_weight.result * get_or c.args.numbers.now c.loop-v.v 0 ≤ 16 * 2 ^ 32
-added c = let v = c.loop-v.v in weighs-small v c.number_weight.ensures (c.type_inv.numbers v)
-
-pub overflow_cast-sum : goal.overflow_cast-sum
-overflow_cast-sum c = record { fits = omega (arith, c.type_inv.numbers c.loop-v.v) }
+-- what a turn reads and adds
+added : (c : After-from) → (c.loop-v.v < c.args.n) × (c.from.result ≡ get_or c.args.numbers.now c.loop-v.v 0) × (c.number_weight.result * c.from.result ≤ 16 * 2 ^ 32)
+added c =
+    let v = c.loop-v.v in
+    let p = c.args.numbers.now in
+    let h : v < c.args.n = omega (arith, length-take-le c.args.n p c.requires.n_in_bounds) in
+    let e = c.from.ensures ∙ get_or-take c.args.n p v 0 h in
+    (h, e, weighs-small v c.number_weight.ensures (subst (Fits w32) (sym e) (c.type_inv.numbers v)))
 
 pub overflow_mul-sum : goal.overflow_mul-sum
-overflow_mul-sum c = record { fits = omega (arith, added (goal.at.overflow_mul-sum c).After-shared_slice_known-in-loop-v-1) }
+overflow_mul-sum c = record { fits = omega (arith, added (goal.at.overflow_mul-sum c).After-from) }
 
 pub overflow_add-sum : goal.overflow_add-sum
-overflow_add-sum c = record { fits = omega (arith, added (goal.at.overflow_add-sum c).After-shared_slice_known-in-loop-v-1, c.loop-v.invariant.2) }
+overflow_add-sum c = record { fits = omega (arith, added (goal.at.overflow_add-sum c).After-from, c.loop-v.invariant.2) }
 
 pub loop-v-preserved : goal.loop-v-preserved
 loop-v-preserved c =
     let l = c.loop-v in
     let p = c.args.numbers.now in
-    (omega arith, rw (weighed-more quadratic p 0 l.v, zero-add l.v, ← l.invariant.1, c.number_weight.ensures), omega (arith, added (goal.at.loop-v-preserved c).After-shared_slice_known-in-loop-v-1))
+    let a = added (goal.at.loop-v-preserved c).After-from in
+    (omega (arith, a.0), rw (weighed-more quadratic p 0 l.v, zero-add l.v, ← l.invariant.1, c.number_weight.ensures, a.1), omega (arith, a.2))
 
 pub returns : goal.returns
 returns c =
-    let e : c.loop-v.v ≡ c.args.n = omega arith in
+    let e : c.loop-v.v ≡ c.args.n = omega (arith, length-take-le c.args.n c.args.numbers.now c.requires.n_in_bounds) in
     record { value = (rw e at c.loop-v.invariant.1); upper_bound = omega arith }
