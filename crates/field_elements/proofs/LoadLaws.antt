@@ -2,13 +2,16 @@
 -- part is number start + i of the list.
 use mathlib.Core.Path.{◌≡◌, sym, ap, ◌∙◌}
 use mathlib.Core.List.{List, [], ◌∷◌, ◌++◌}
-use Prim.Native.Nat.{ℕ, ◌+◌, ◌*◌, ◌-◌, ◌≤◌, ◌<◌}
+use Prim.Native.Nat.{ℕ, ◌+◌, ◌*◌, ◌-◌, ◌/◌, ◌≤◌, ◌<◌}
 use native.Mathlib.Nat.{zero-add}
 use native.Mathlib.Omega.{arith}
 use lib.IntN.{ℤ, pos}
 use lib.ListN.{length, get_or, take, drop}
 use Rattle.whole.specs.Table.{table, at}
 use Rattle.whole.proofs.SumLaws.{sum-cong}
+use lib.Seq.{length-take-le, get_or-take}
+use Rattle.std.specs.Simd.{first_chunks}
+use Rattle.whole.proofs.ListParts.{chunk-at}
 use Rattle.whole.proofs.OverwriteLaws.{part_at}
 use Rattle.whole.proofs.TableLaws.{length-table, get_d-table, table-cong}
 use Rattle.rules.specs.Field.{quadratic, element_length, cell, weighted, mass, limit}
@@ -35,6 +38,14 @@ module _ (l : List ℕ) (e k : ℕ) (nine : k ≡ 9) where
   unfolding weighed weighted loaded_value quadratic
   weighed-part = sum-cong 9 (λ v. number_weight quadratic v * get_or (take k (drop (e * 9) l)) (0 + v) 0) (λ v. quadratic.weight v * get_or l (e * 9 + v) 0)
       (λ v h. λ i. node-number quadratic v h i * lent v h i)
+
+-- chunk e of the first n, as the library lends a load by chunks of nine
+pub lent-chunk : (l : List ℕ) (cs : List (List ℕ)) (n e : ℕ) → cs ≡ first_chunks 9 (length l / 9) l → length cs ≡ length l / 9 → n * 9 ≤ length l → e < length (take n cs)
+    → (e < n) × (get_or (take n cs) e [] ≡ take 9 (drop (e * 9) l))
+lent-chunk l cs n e same long room h =
+    let f : n ≤ length cs = omega arith in
+    let k : e < n = omega (arith, length-take-le n cs f) in
+    (k, get_or-take n cs e [] k ∙ ap (λ x. get_or x e []) same ∙ chunk-at 9 (length l / 9) e l (omega arith))
 
 pub loaded-length : (l : List ℕ) (e : ℕ) → length (loaded_element quadratic l e) ≡ 10
 loaded-length l e = length-loaded-element quadratic l e ∙ ten

@@ -15,12 +15,10 @@ pub fn loaded_total(numbers: &[u32], n: usize) -> u64
     requires n_in_bounds { n * 9 ≤ length numbers.now }
     ensures { result ≡ sum n (λ e. weighted quadratic (loaded_value quadratic numbers.now e)) }
 {
-    let mut sum: u64 = 0;
-    let mut start = 0;
-    for e in 0..n {
-        let end = start + NODES;
-        sum += element::weigh(&numbers[start..end], NODES);
-        start = end;
+    let (elements, _) = numbers.as_chunks::<NODES>();
+    let mut sum = 0;
+    for element in &elements[..n] {
+        sum += element::weigh(element, NODES);
     }
     sum
 }
@@ -35,20 +33,17 @@ fn lay_element(part: &mut [u32], numbers: &[u32])
     part[NODES] = 0;
 }
 
-// Loads n elements.
+// Loads n elements. The part is written by place: chunks_exact_mut was tried, and after its loop a proof knows no number of the part.
 pub fn lay(part: &mut [u32], numbers: &[u32], n: usize)
     requires part_len { length part.old ≡ n * 10 }
     requires n_le_most_elements { n ≤ most_elements }
     requires n_in_bounds { n * 9 ≤ length numbers.now }
     ensures { part.new ≡ blocks n (loaded_element quadratic numbers.now) }
 {
-    let mut from = 0;
-    let mut to = 0;
-    for e in 0..n {
-        let from_end = from + NODES;
-        let to_end = to + NUMBERS;
-        lay_element(&mut part[to..to_end], &numbers[from..from_end]);
-        from = from_end;
-        to = to_end;
+    let (elements, _) = numbers.as_chunks::<NODES>();
+    for (e, element) in elements[..n].iter().enumerate() {
+        let start = e * NUMBERS;
+        let end = start + NUMBERS;
+        lay_element(&mut part[start..end], element);
     }
 }

@@ -70,7 +70,8 @@ pub fn rescale(p: u64, target: u64, v: u64) -> u64
     if p <= target { v } else { v * target / p }
 }
 
-// Truncation, rescaling and remainder of the values psi, each raised by shift.
+// Truncation, rescaling and remainder of the values psi, each raised by shift. The part is written by place: after a loop over iter_mut
+// beside psi a proof knows no number of the part.
 fn close_shifted(part: &mut [u32], psi: &[i64], shift: i64, target: u64)
     requires part_len { length part.old ≡ 10 }
     requires tentative { Tentative psi.now }

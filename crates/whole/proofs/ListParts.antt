@@ -1,11 +1,12 @@
 -- Parts of a list that are read or written one after the other.
 use mathlib.Core.Path.{◌≡◌, sym, ap, ap₂, ◌∙◌}
 use mathlib.Core.List.{List, [], ◌∷◌, ◌++◌, append_assoc, append-nil}
-use Prim.Native.Nat.{ℕ, zero, suc, ◌+◌, ◌-◌, ◌≤◌}
-use native.Mathlib.Nat.{add-zero, add-suc}
+use Prim.Native.Nat.{ℕ, zero, suc, ◌+◌, ◌-◌, ◌*◌, ◌≤◌, ◌<◌}
+use native.Mathlib.Nat.{add-zero, add-suc, zero-mul, suc-mul}
 use native.Mathlib.Omega.{arith}
-use lib.ListN.{length, take, drop, length-append, length-drop, drop_of_length-le}
+use lib.ListN.{length, get_or, take, drop, length-append, length-drop, drop_of_length-le}
 use lib.Seq.{length-take-le, take_at, drop_at, drop-drop}
+use Rattle.std.specs.Simd.{first_chunks}
 use Rattle.whole.specs.Table.{blocks, table, overwrite}
 use Rattle.whole.proofs.TableLaws.{table-blocks, length-table}
 use Rattle.whole.proofs.OverwriteLaws.{length-overwrite, overwrite-part, front-is}
@@ -59,3 +60,9 @@ module _ {A : Type 0} where
 -- a list that is written over all of another
 pub overwritten : {A : Type 0} (ys xs : List A) → length xs ≡ length ys → overwrite 0 ys xs ≡ ys
 overwritten ys xs e = front-is ys xs ∙ ap (λ r. ys ++ r) (drop_of_length-le xs {i = length ys} (omega arith)) ∙ append-nil ys
+
+-- chunk i of the first k of width w, as the library's `as_chunks` lends them
+pub chunk-at : {A : Type 0} (w k i : ℕ) (l : List A) → i < k → get_or (first_chunks w k l) i [] ≡ take w (drop (i * w) l)
+chunk-at w zero i l h = let f : ⊥ = omega arith in absurd f
+chunk-at w (suc k) zero l h = ap (λ m. take w (drop m l)) (sym (zero-mul w))
+chunk-at w (suc k) (suc i) l h = chunk-at w k i (drop w l) (omega arith) ∙ ap (take w) (drop-drop (i * w) w l ∙ ap (λ m. drop m l) (omega (arith, suc-mul i w)))
