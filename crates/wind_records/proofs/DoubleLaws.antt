@@ -2,19 +2,16 @@
 use mathlib.Core.Path.{◌≡◌, refl, sym, ap, subst, ◌∙◌}
 use mathlib.Core.Bool.{Bool, true, false, not, cond}
 use Prim.Native.Nat.{ℕ, zero, suc, ◌+◌, ◌*◌, ◌-◌, ◌%◌, ◌^◌, ◌≤◌, ◌<◌}
-use borrow.Author.Tests.{le-leb, lt-leb, ne_eqb, lt-ltb, not-true}
+use borrow.Author.Tests.{le-leb, lt-leb, ne_eqb, not-true}
 use native.Mathlib.Nat.{le_trans, le_of_eq, lt_of_lt_of_le, mul_assoc, mul_comm, mul-le-mul_left, mul-le-mul_right, mul-lt-mul_of_pos_left, mul-lt-mul_of_pos_right, mod-lt, mod-eq_of_lt}
 use native.Mathlib.Omega.{arith}
-use lib.Dec.{T, leb, eqb, leb→le, le→leb, nleb→lt, lit<, lit≤}
+use lib.Dec.{T, leb, eqb, leb→le, nleb→lt, lit<, lit≤}
 use lib.Ieee.{Float, nan, inf, fin, binary64, nan_bits, is_nan, of_bits, to_bits}
 use lib.Ieee.Bits.{nan_bits_is, to_bits-of_bits}
-use lib.IntN.{ℤ, pos, negsuc, neg_ℤ, nat_abs, ◌-ℤ◌, ◌*ℤ◌}
+use lib.IntN.{ℤ, pos, neg_ℤ, nat_abs, ◌*ℤ◌}
 use lib.Pow.{pow_pos, pow-add, pow_mono}
-use mir.Syntax.{w16}
-use mir.Val.{SFits, to_z, of_z}
-use mir.ValLaws.{to_z_pos, to_z-of_z}
 use Rattle.whole.specs.Nearest.{nearest_natural, nearest}
-use Rattle.whole.proofs.Cases.{cond_ind, cond_yes, cond_no, true_of}
+use Rattle.whole.proofs.Cases.{cond_ind, true_of}
 use Rattle.whole.proofs.WholeLaws.{abs_neg}
 use Rattle.whole.proofs.NearestLaws.{at_least, at_most, rounds-to-zero, same-fraction, nearest-neg}
 use Rattle.rules.specs.Field.{wind_in_range}
@@ -65,11 +62,11 @@ module _ (bits : ℕ) where
       subst (λ x. 2 ^ 1074 ≤ x) (sym (normal (omega arith)))
       (le_trans (le_of_eq (pow-add 2 52 1022)) (le_trans (mul-le-mul_left (2 ^ 52) p) (mul-le-mul_right {m = 2 ^ 52} {n = 2 ^ 52 + fraction bits} (2 ^ (exponent bits - 1)) (omega arith))))
 
-  pub high : 1023 ≤ exponent bits → 4096 ≡ capped_size bits
-  high h = cut (wind_size bits) (at_least (4096 * magnitude bits) (2 ^ 1074) 4096 (pow_pos 1074) (mul-le-mul_left 4096 (large h))) ∙ capped_is bits
+  pub high : 1023 ≤ exponent bits → capped_size bits ≡ 4096
+  high h = sym (capped_is bits) ∙ cut (wind_size bits) (at_least (4096 * magnitude bits) (2 ^ 1074) 4096 (pow_pos 1074) (mul-le-mul_left 4096 (large h)))
     where
-      cut : (n : ℕ) → 4096 ≤ n → 4096 ≡ capped n
-      cut n l = cond_ind (leb n 4096) n 4096 (λ x. 4096 ≡ x) (λ t. omega (arith, leb→le n 4096 t)) (λ _. refl)
+      cut : (n : ℕ) → 4096 ≤ n → capped n ≡ 4096
+      cut n l = cond_ind (leb n 4096) n 4096 (λ x. x ≡ 4096) (λ t. omega (arith, leb→le n 4096 t)) (λ _. refl)
 
   small : exponent bits < 1010 → magnitude bits < 2 ^ 1061
   unfolding magnitude
@@ -78,8 +75,8 @@ module _ (bits : ℕ) where
       (λ _. lt_of_lt_of_le (mul-lt-mul_of_pos_right {m = 2 ^ 52 + fraction bits} {n = 2 ^ 53} (omega (arith, mod-lt bits {m = 2 ^ 52} (pow_pos 52))) (pow_pos (exponent bits - 1)))
       (le_trans (mul-le-mul_left (2 ^ 53) (pow_mono {i = exponent bits - 1} {j = 1008} (omega arith))) (le_of_eq (sym (pow-add 2 53 1008)))))
 
-  pub low : exponent bits < 1010 → 0 ≡ capped_size bits
-  low h = sym (ap capped (rounds-to-zero (4096 * magnitude bits) (2 ^ 1074) below)) ∙ capped_is bits
+  pub low : exponent bits < 1010 → capped_size bits ≡ 0
+  low h = sym (capped_is bits) ∙ ap capped (rounds-to-zero (4096 * magnitude bits) (2 ^ 1074) below)
     where
       below : 2 * (4096 * magnitude bits) < 2 ^ 1074
       below = subst (λ x. x < 2 ^ 1074) (mul_assoc 2 4096 (magnitude bits)) (lt_of_lt_of_le (mul-lt-mul_of_pos_left {k = 8192} (small h) (lit< tt)) (le_of_eq (sym (pow-add 2 13 1061))))
@@ -125,15 +122,6 @@ capped_small bits = cut (nat_abs (face_wind bits))
     cut : (n : ℕ) → capped n ≤ 4096
     cut n = cond_ind (leb n 4096) n 4096 (λ x. x ≤ 4096) (λ t. leb→le n 4096 t) (λ _. omega arith)
 
-module _ (bits : ℕ) where
-  pub below-zero : 2 ^ 63 ≤ bits → neg_ℤ (pos (capped_size bits)) ≡ capped_wind bits
-  unfolding capped_wind
-  below-zero h = sym (cond_yes (sign_bit bits) _ _ (le→leb (2 ^ 63) bits h))
-
-  pub not-below-zero : bits < 2 ^ 63 → pos (capped_size bits) ≡ capped_wind bits
-  unfolding capped_wind
-  not-below-zero h = sym (cond_no (sign_bit bits) _ _ (subst (λ b. T (not b)) (sym (lt-leb (2 ^ 63) bits h)) tt))
-
 -- 1 shifted by k
 pub shifted : (k : ℕ) → k ≤ 53 → 1 * 2 ^ k % 18446744073709551616 ≡ 2 ^ k
 shifted k h =
@@ -141,38 +129,14 @@ shifted k h =
     let e : 1 * 2 ^ k ≡ 2 ^ k = omega arith in
     rw e (mod-eq_of_lt (omega arith))
 
--- 0 less a size, at 16 bits
-minus : (n : ℕ) → pos 0 -ℤ pos n ≡ neg_ℤ (pos n)
-minus zero = refl
-minus (suc n) = let e : suc n - 1 ≡ n = omega arith in rw (lt-ltb 0 (suc n) (omega arith)) (ap negsuc e)
-
-pub negated : (n : ℕ) → n ≤ 4096 → pos 0 -ℤ to_z w16 n ≡ neg_ℤ (pos n)
-negated n h = rw (to_z_pos w16 n (omega arith)) (minus n)
-
-neg-fits : (n : ℕ) → n ≤ 4096 → SFits w16 (neg_ℤ (pos n))
-neg-fits zero h = record { sfits = lit< tt }
-neg-fits (suc n) h = record { sfits = omega arith }
-
-pub negated_fits : (n : ℕ) → n ≤ 4096 → SFits w16 (pos 0 -ℤ to_z w16 n)
-negated_fits n h = subst (SFits w16) (sym (negated n h)) (neg-fits n h)
-
--- a wind is the same when it is read back from its 16 bits
-pub read-wind : (z : ℤ) (bits : ℕ) → z ≡ capped_wind bits → to_z w16 (of_z w16 z) ≡ capped_wind bits
-unfolding capped_wind
-read-wind z bits e = ap (λ x. to_z w16 (of_z w16 x)) e ∙ to_z-of_z w16 (capped_wind bits) (signed-fits (sign_bit bits) (capped_size bits) (capped_small bits))
-  where
-    signed-fits : (s : Bool) (n : ℕ) → n ≤ 4096 → SFits w16 (signed s n)
-    signed-fits true n h = neg-fits n h
-    signed-fits false n h = record { sfits = omega arith }
-
-pub capped-zero : capped_wind 0 ≡ pos 0
+pub capped_zero : capped_wind 0 ≡ pos 0
 unfolding capped_wind capped_size face_wind exact_value magnitude nearest nearest_natural
-capped-zero = refl
+capped_zero = refl
 
 -- the bits of a finite f64 are no NaN's
-pub no-nan-bits : (bits : ℕ) → T (finite bits) → T (not (nan_bits binary64 bits))
+pub no_nan_bits : (bits : ℕ) → T (finite bits) → T (not (nan_bits binary64 bits))
 unfolding nan_bits
-no-nan-bits bits t = rw (not-true (eqb (exponent bits) 2047) (true_of (finite bits) t)) tt
+no_nan_bits bits t = rw (not-true (eqb (exponent bits) 2047) (true_of (finite bits) t)) tt
 
 pub no_nan : (x : Float) → T (finite (to_bits binary64 x)) → T (not (is_nan x))
 unfolding to_bits is_nan
@@ -182,4 +146,4 @@ no_nan (fin s m e) t = tt
 
 -- through an f64 and back
 pub same_bits : (bits : ℕ) → bits < 18446744073709551616 → T (finite bits) → to_bits binary64 (of_bits binary64 bits) ≡ bits
-same_bits bits l t = to_bits-of_bits binary64 bits l (subst (λ b. T (not b)) (nan_bits_is binary64 bits) (no-nan-bits bits t))
+same_bits bits l t = to_bits-of_bits binary64 bits l (subst (λ b. T (not b)) (nan_bits_is binary64 bits) (no_nan_bits bits t))
