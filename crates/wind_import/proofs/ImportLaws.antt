@@ -8,7 +8,8 @@ use native.Mathlib.Numerals.{add-one}
 use native.Mathlib.Omega.{arith}
 use lib.Dec.{eqb}
 use lib.IntN.{ℤ}
-use lib.ListN.{length}
+use lib.ListN.{length, drop, length-drop}
+use lib.Seq.{drop-drop}
 use Rattle.whole.specs.Table.{blocks, overwrite}
 use Rattle.whole.proofs.Cases.{true_of}
 use Rattle.whole.proofs.ListParts.{blocks-split}
@@ -24,7 +25,7 @@ use Rattle.rules.specs.WindRecords.{record_length, whole_at, record_checks, reco
 use Rattle.rules.proofs.AnswerLaws.{Passed, accepted-is, passed-prefix, passed-both, prefix-refused, after-refused, after-accepted}
 use Rattle.wind_records.specs.declared.Winds.{Winds}
 use Rattle.wind_records.specs.Records.{winds_at}
-use Rattle.wind_records.proofs.RecordLaws.{Whole, whole_is}
+use Rattle.wind_records.proofs.RecordLaws.{whole_is, kind-from, checks-from, winds-from}
 
 module _ (records : List ℕ) where
   -- the checks of the record of element e
@@ -39,61 +40,68 @@ module _ (records : List ℕ) where
   abbrev last : ℕ → List Check
   last n = check 11 (eqb (record_start records n) (length records)) ∷ []
 
-  -- the first e records have passed, and the next one begins at place `at`
-  pub record Walked (e at : ℕ) : Type 0 where
-    pub place : at ≡ record_start records e
-    pub room : at ≤ length records
+  -- the first e records have passed, and these bytes are left
+  pub record Walked (e : ℕ) (left : List ℕ) : Type 0 where
+    pub rest : left ≡ drop (record_start records e) records
+    pub room : record_start records e ≤ length records
     pub passed : Passed (blocks e checks_of)
 
-  pub walked_none : Walked 0 0
+  pub walked_none : Walked 0 records
   unfolding record_start blocks
-  walked_none = record { place = refl; room = omega arith; passed = tt }
+  walked_none = record { rest = refl; room = omega arith; passed = tt }
 
-  module _ {A : Type 0} (e at : ℕ) (w : Walked e at) where
-    -- the record at `at` passes
-    module _ (x y : A) (a : accepted x ≡ answer (record_checks records at) y) where
-      pub whole : Whole records at
-      unfolding record_checks
-      whole = whole_is records at (true_of (whole_at records at) (accepted-is (record_checks records at) x y a).0.0)
+  module _ (e : ℕ) (left : List ℕ) (w : Walked e left) where
+    -- the record of element e is the one at the front of them
+    front : record_checks left 0 ≡ checks_of e
+    front = ap (λ l. record_checks l 0) w.rest ∙ checks-from records (record_start records e) w.room
 
-      pub walked_more : Walked (e + 1) (at + record_length (byte_at records at))
-      unfolding record_start
-      walked_more = record {
-        place = ap (λ p. p + record_length (byte_at records p)) w.place ∙ ap (record_start records) (sym (add-one e));
-        room = whole.room;
-        passed = subst Passed (sym (blocks_more e checks_of))
-            (passed-both (blocks e checks_of) (checks_of e) w.passed (subst (λ p. Passed (record_checks records p)) w.place (accepted-is (record_checks records at) x y a).0));
-      }
+    module _ {A : Type 0} (y : A) where
+      -- it passes
+      pub walked_more : (x : A) → accepted x ≡ answer (record_checks left 0) y → (rest : List ℕ) → rest ≡ drop (record_length (byte_at left 0)) left → Walked (e + 1) rest
+      unfolding record_checks record_start
+      walked_more x a rest r =
+          let p = record_start records e in
+          let passed = accepted-is (checks_of e) x y (a ∙ ap (λ cs. answer cs y) front) in
+          let whole = whole_is records p (true_of (whole_at records p) passed.0.0) in
+          let next : p + record_length (byte_at records p) ≡ record_start records (e + 1) = ap (record_start records) (sym (add-one e)) in
+          record {
+            rest = r ∙ ap (λ l. drop (record_length (byte_at l 0)) l) w.rest ∙ ap (λ k. drop (record_length k) (drop p records)) (kind-from records p) ∙ drop-drop _ p records ∙ ap (λ k. drop k records) next;
+            room = subst (λ k. k ≤ length records) next whole.room;
+            passed = subst Passed (sym (blocks_more e checks_of)) (passed-both (blocks e checks_of) (checks_of e) w.passed passed.0);
+          }
 
-    -- it is refused, and so is the import, whatever comes after it
-    pub walked-refused : (n k : ℕ) (y : A) → e < n → refused k ≡ answer (record_checks records at) y → refused k ≡ records_reply n
-    unfolding all_record_checks
-    walked-refused n k y l a =
-        let m : e + 1 + (n - (e + 1)) ≡ n = omega arith in
-        let rest = blocks (n - (e + 1)) (λ i. checks_of (e + 1 + i)) in
-        let b = ap (λ i. blocks i checks_of) (sym m) ∙ blocks-split (e + 1) (n - (e + 1)) checks_of in
-        let r = ap (λ cs. answer cs y) (blocks_more e checks_of) ∙ passed-prefix (blocks e checks_of) (checks_of e) y w.passed ∙ ap (λ p. answer (record_checks records p) y) (sym w.place) ∙ sym a in
-        sym (ap (λ cs. answer (cs ++ last n) tt) b ∙ ap (λ cs. answer cs tt) (append_assoc (blocks (e + 1) checks_of) rest (last n)) ∙ prefix-refused (blocks (e + 1) checks_of) (rest ++ last n) y tt k r)
+      -- it is refused, and so is the import, whatever comes after it
+      pub walked-refused : (n k : ℕ) → e < n → refused k ≡ answer (record_checks left 0) y → refused k ≡ records_reply n
+      unfolding all_record_checks
+      walked-refused n k l a =
+          let m : e + 1 + (n - (e + 1)) ≡ n = omega arith in
+          let rest = blocks (n - (e + 1)) (λ i. checks_of (e + 1 + i)) in
+          let b = ap (λ i. blocks i checks_of) (sym m) ∙ blocks-split (e + 1) (n - (e + 1)) checks_of in
+          let r = ap (λ cs. answer cs y) (blocks_more e checks_of) ∙ passed-prefix (blocks e checks_of) (checks_of e) y w.passed ∙ ap (λ cs. answer cs y) (sym front) ∙ sym a in
+          sym (ap (λ cs. answer (cs ++ last n) tt) b ∙ ap (λ cs. answer cs tt) (append_assoc (blocks (e + 1) checks_of) rest (last n)) ∙ prefix-refused (blocks (e + 1) checks_of) (rest ++ last n) y tt k r)
 
-    pub never-refused : (n k : ℕ) (y : A) → e < n → refused k ≡ answer (record_checks records at) y → accepted tt ≡ records_reply n → ⊥
-    never-refused n k y l a p = let q : accepted tt ≡ refused k = p ∙ sym (walked-refused n k y l a) in let z : ◌≡◌ {A = ℕ} 0 1 = cc in omega arith
+      pub never-refused : (n k : ℕ) → e < n → refused k ≡ answer (record_checks left 0) y → accepted tt ≡ records_reply n → ⊥
+      never-refused n k l a p = let q : accepted tt ≡ refused k = p ∙ sym (walked-refused n k l a) in let z : ◌≡◌ {A = ℕ} 0 1 = cc in omega arith
 
-  -- the winds of a record that passed
-  pub winds-are : (e at : ℕ) → Walked e at → (w : Winds) → accepted w ≡ answer (record_checks records at) (winds_at records at) → (w.east ≡ east_wind records e) × (w.north ≡ north_wind records e)
-  unfolding winds_at
-  winds-are e at h w a =
-      let s = (accepted-is (record_checks records at) w (winds_at records at) a).1 ∙ ap (winds_at records) h.place in
-      (ap (λ x. x.east) s, ap (λ x. x.north) s)
+    -- the winds of a record that passed
+    pub winds-are : (x : Winds) → accepted x ≡ answer (record_checks left 0) (winds_at left 0) → (x.east ≡ east_wind records e) × (x.north ≡ north_wind records e)
+    unfolding winds_at
+    winds-are x a =
+        let s = (accepted-is (record_checks left 0) x (winds_at left 0) a).1 ∙ ap (λ l. winds_at l 0) w.rest ∙ winds-from records (record_start records e) in
+        (ap (λ z. z.east) s, ap (λ z. z.north) s)
 
   -- after the last record
-  module _ (n at : ℕ) (w : Walked n at) where
-    pub bytes_left : at < length records → refused 11 ≡ records_reply n
-    unfolding all_record_checks answer
-    bytes_left l = sym (passed-prefix (blocks n checks_of) (last n) tt w.passed ∙ rw (ne_eqb (record_start records n) (length records) (λ z. omega (arith, w.place))))
+  module _ (n : ℕ) (left : List ℕ) (w : Walked n left) where
+    long : length left ≡ length records - record_start records n
+    long = ap length w.rest ∙ length-drop (record_start records n) records
 
-    pub none_left : length records ≤ at → accepted tt ≡ records_reply n
+    pub bytes_left : (length left ≡ 0 → ⊥) → refused 11 ≡ records_reply n
     unfolding all_record_checks answer
-    none_left l = sym (passed-prefix (blocks n checks_of) (last n) tt w.passed ∙ rw (eq-eqb (record_start records n) (length records) (omega (arith, w.place, w.room))))
+    bytes_left l = sym (passed-prefix (blocks n checks_of) (last n) tt w.passed ∙ rw (ne_eqb (record_start records n) (length records) (λ z. l (omega (arith, long)))) refl)
+
+    pub none_left : length left ≡ 0 → accepted tt ≡ records_reply n
+    unfolding all_record_checks answer
+    none_left l = sym (passed-prefix (blocks n checks_of) (last n) tt w.passed ∙ rw (eq-eqb (record_start records n) (length records) (omega (arith, long, w.room))) refl)
 
 -- ---- the import
 module _ (g : Shape) (records : List ℕ) (wind : List ℤ) where

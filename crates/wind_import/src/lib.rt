@@ -5,55 +5,40 @@ ghost use Rattle.std.specs.Prelude.{◌≡◌, ◌+◌, ◌≤◌, length};
 ghost use Rattle.whole.specs.Written.{Written};
 ghost use Rattle.rules.specs.Answers.{accepted, answer, answers};
 ghost use Rattle.rules.specs.Calls.{WindGives, from_records};
-ghost use Rattle.rules.specs.Sizes.{most_elements};
 ghost use Rattle.rules.specs.WindRecords.{east_wind, north_wind, all_record_checks};
 
 use rules::{Refusal, Shape};
-use wind_records::Imported;
 
 // Whether the records of n elements pass, with no byte left over.
 fn check(records: &[u8], n: usize) -> Result<(), Refusal>
     ensures { answers result (answer (all_record_checks records.now n) tt) }
 {
-    let mut at = 0;
-    let mut e = 0;
-    while e < n {
-        let found = wind_records::winds_at(records, at);
-        match found {
-            Imported::Refused(r) => {
-                return Err(r);
-            }
-            Imported::Winds(_) => {}
-        }
-        at += wind_records::record_length(records[at]);
-        e += 1;
+    let mut left = records;
+    for _ in 0..n {
+        let (_, rest) = wind_records::first_winds(left)?;
+        left = rest;
     }
-    if at < records.len() {
-        return Err(Refusal::BrokenRecords);
+    if left.is_empty() {
+        Ok(())
+    } else {
+        Err(Refusal::BrokenRecords)
     }
-    Ok(())
 }
 
-// Writes the winds of n records that have passed.
+// Writes the winds of n records that have passed. The places are counted: what an `iter_mut` in a `zip` wrote, no proof knows.
 fn lay(wind: &mut [i16], records: &[u8], n: usize)
     requires tt_value { accepted (tt {0}) ≡ answer (all_record_checks records.now n) tt }
-    requires n_le_most_elements { n ≤ most_elements }
     requires n_in_bounds { n + n ≤ length wind.old }
     ensures { Written 0 n n (east_wind records.now) (north_wind records.now) wind.old wind.new }
 {
-    let mut at = 0;
-    let mut e = 0;
-    while e < n {
-        let found = wind_records::winds_at(records, at);
-        let Imported::Winds(w) = found else {
-            return; // never taken: every record has passed
+    let mut left = records;
+    for e in 0..n {
+        let Ok((winds, rest)) = wind_records::first_winds(left) else {
+            unreachable!(); // every record has passed
         };
-        let east = w.east;
-        let north = w.north;
-        wind[n + e] = north;
-        wind[e] = east;
-        at += wind_records::record_length(records[at]);
-        e += 1;
+        wind[n + e] = winds.north;
+        wind[e] = winds.east;
+        left = rest;
     }
 }
 

@@ -34,7 +34,7 @@ module _ (records : List ℕ) (p : ℕ) where
   unfolding number64 number32
   number64-from i = simp (get_or-drop, add_assoc) refl
 
-  kind-from : byte_at (drop p records) 0 ≡ byte_at records p
+  pub kind-from : byte_at (drop p records) 0 ≡ byte_at records p
   kind-from = get_or-drop p records 0 0 ∙ ap (byte_at records) (add-zero p)
 
   components-from : components_at (drop p records) 0 ≡ components_at records p

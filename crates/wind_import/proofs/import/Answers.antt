@@ -1,16 +1,15 @@
 -- The import: 2 and 4, then what the first walk answered; where that is acceptance, the second walk leaves the records' winds.
-use mathlib.Core.Path.{◌≡◌, sym, ap, ◌∙◌}
+use borrow.Author.Rules.{rules}
+use mathlib.Core.Path.{◌≡◌, sym, ◌∙◌}
 use mathlib.Core.Bool.{true}
 use Prim.Native.Nat.{◌≤◌}
 use native.Mathlib.Omega.{arith}
 use lib.ListN.{length}
-use Rattle.rules.proofs.AnswerLaws.{passed_on}
-use Rattle.rules.specs.Answers.{accepted}
 use Rattle.rules.specs.Field.{admitted, faces}
-use Rattle.rules.proofs.ShapeLaws.{admitted-is, elements-le}
-use Rattle.wind_import.proofs.ImportLaws.{records_reply, import-2, import-4, import-refused, import-done}
+use Rattle.rules.proofs.ShapeLaws.{admitted-is}
+use Rattle.wind_import.proofs.ImportLaws.{import-2, import-4, import-refused, import-done}
 use Rattle.wind_import.proofs.import.Goals as goal
-use Rattle.wind_import.proofs.import.Goals.{Else-not-admitted, Else-wind-faces, In_ok-check}
+use Rattle.wind_import.proofs.import.Goals.{Else-not-admitted, Else-wind-faces}
 
 -- what each passed test says
 shape : (c : Else-not-admitted) → admitted c.args.shape ≡ true
@@ -31,20 +30,11 @@ returns-then-wind-faces c = import-4 _ _ _ (shape (goal.at.returns-then-wind-fac
 pub elements-n-requires : goal.elements-n-requires
 elements-n-requires c = admitted-is _ (shape (goal.at.elements-n-requires c).Else-not-admitted)
 
--- the first walk has accepted
-all-passed : (c : In_ok-check) → accepted tt ≡ records_reply c.args.records.now c.elements-n.result
-all-passed c = c.in_ok-check.ensures
-
-pub lay-requires : goal.lay-requires
-lay-requires c =
-    let g = c.args.shape in
-    record { tt_value = all-passed (goal.at.lay-requires c).In_ok-check; n_le_most_elements = omega (arith, c.elements-n.ensures, elements-le g (admitted-is g (shape (goal.at.lay-requires c).Else-not-admitted))); n_in_bounds = omega (arith, c.elements-n.ensures, room (goal.at.lay-requires c).Else-wind-faces) }
-
 pub returns-in_err-check : goal.returns-in_err-check
 returns-in_err-check c =
-    let r = import-refused _ _ _ (shape (goal.at.returns-in_err-check c).Else-not-admitted) (room (goal.at.returns-in_err-check c).Else-wind-faces) _ c.elements-n.ensures _ c.in_err-check.ensures in
-    (passed_on c.from_residual.result _ c.from_residual.ensures.1 ∙ r.0, r.1)
+    let h = import-refused _ _ _ (shape (goal.at.returns-in_err-check c).Else-not-admitted) (room (goal.at.returns-in_err-check c).Else-wind-faces) _ c.elements-n.ensures _ c.in_err-check.ensures in
+    search rules
 
 pub returns : goal.returns
 returns c =
-    import-done _ _ _ (shape (goal.at.returns c).Else-not-admitted) (room (goal.at.returns c).Else-wind-faces) _ c.elements-n.ensures (all-passed (goal.at.returns c).In_ok-check) _ c.lay.ensures
+    import-done _ _ _ (shape (goal.at.returns c).Else-not-admitted) (room (goal.at.returns c).Else-wind-faces) _ c.elements-n.ensures c.in_ok-check.ensures _ c.lay.ensures
