@@ -25,7 +25,7 @@ fn check(records: &[u8], n: usize) -> Result<(), Refusal>
     }
 }
 
-// Writes the winds of n records that have passed. The places are counted: what an `iter_mut` in a `zip` wrote, no proof knows.
+// Writes the winds of n records that have passed. By place: of the numbers behind `easts.iter_mut().zip(norths)` a proof knows nothing afterwards.
 fn lay(wind: &mut [i16], records: &[u8], n: usize)
     requires tt_value { accepted (tt {0}) ≡ answer (all_record_checks records.now n) tt }
     requires n_in_bounds { n + n ≤ length wind.old }

@@ -1,6 +1,7 @@
 use borrow.Author.Rules.{rules}
-use mathlib.Core.Path.{subst}
+use mathlib.Core.Path.{subst, ◌∙◌}
 use native.Mathlib.Omega.{arith}
+use Rattle.rules.proofs.AnswerLaws.{passed_on}
 use Rattle.wind_import.proofs.ImportLaws.{Walked, walked_none, walked_more, walked-refused, bytes_left, none_left}
 use Rattle.wind_import.proofs.check.Goals as goal
 use Rattle.wind_import.proofs.check.Goals.{After-loop}
@@ -13,8 +14,7 @@ loop-preserved c = walked_more _ _ _ c.loop.invariant _ _ c.in_ok-rest.ensures.w
 
 pub returns-in_err-rest : goal.returns-in_err-rest
 returns-in_err-rest c =
-    let h = walked-refused _ _ _ c.loop.invariant _ _ _ c.loop-test.true c.in_err-rest.ensures.winds in
-    search rules
+    passed_on c.from_residual.result _ c.from_residual.ensures.1 ∙ walked-refused _ _ _ c.loop.invariant _ _ _ c.loop-test.true c.in_err-rest.ensures.winds
 
 -- after the last record
 at-end : (c : After-loop) → Walked c.args.records.now c.args.n c.loop.left.now

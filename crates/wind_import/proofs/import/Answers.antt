@@ -1,11 +1,11 @@
 -- The import: 2 and 4, then what the first walk answered; where that is acceptance, the second walk leaves the records' winds.
-use borrow.Author.Rules.{rules}
 use mathlib.Core.Path.{◌≡◌, sym, ◌∙◌}
 use mathlib.Core.Bool.{true}
 use Prim.Native.Nat.{◌≤◌}
 use native.Mathlib.Omega.{arith}
 use lib.ListN.{length}
 use Rattle.rules.specs.Field.{admitted, faces}
+use Rattle.rules.proofs.AnswerLaws.{passed_on}
 use Rattle.rules.proofs.ShapeLaws.{admitted-is}
 use Rattle.wind_import.proofs.ImportLaws.{import-2, import-4, import-refused, import-done}
 use Rattle.wind_import.proofs.import.Goals as goal
@@ -32,8 +32,8 @@ elements-n-requires c = admitted-is _ (shape (goal.at.elements-n-requires c).Els
 
 pub returns-in_err-check : goal.returns-in_err-check
 returns-in_err-check c =
-    let h = import-refused _ _ _ (shape (goal.at.returns-in_err-check c).Else-not-admitted) (room (goal.at.returns-in_err-check c).Else-wind-faces) _ c.elements-n.ensures _ c.in_err-check.ensures in
-    search rules
+    let r = import-refused _ _ _ (shape (goal.at.returns-in_err-check c).Else-not-admitted) (room (goal.at.returns-in_err-check c).Else-wind-faces) _ c.elements-n.ensures _ c.in_err-check.ensures in
+    (passed_on c.from_residual.result _ c.from_residual.ensures.1 ∙ r.0, r.1)
 
 pub returns : goal.returns
 returns c =
