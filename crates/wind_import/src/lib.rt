@@ -27,8 +27,8 @@ fn check(records: &[u8], n: usize) -> Result<(), Refusal>
 
 // Writes the winds of n records that have passed. By place: of the numbers behind `easts.iter_mut().zip(norths)` a proof knows nothing afterwards.
 fn lay(wind: &mut [i16], records: &[u8], n: usize)
-    requires tt_value { accepted (tt {0}) ≡ answer (all_record_checks records.now n) tt }
-    requires n_in_bounds { n + n ≤ length wind.old }
+    requires passed { accepted (tt {0}) ≡ answer (all_record_checks records.now n) tt }
+    requires room { n + n ≤ length wind.old }
     ensures { Written 0 n n (east_wind records.now) (north_wind records.now) wind.old wind.new }
 {
     let mut left = records;

@@ -80,8 +80,8 @@ pub fn first_kind(records: &[u8]) -> Result<(Kind, &[u8]), Refusal>
 {
     let byte = *records.first().ok_or(Refusal::BrokenRecords)?;
     let kind = Kind::try_from(byte)?;
-    let (_, rest) = records
-        .split_at_checked(kind.record_length())
+    let rest = records
+        .get(kind.record_length()..)
         .ok_or(Refusal::BrokenRecords)?;
     Ok((kind, rest))
 }
@@ -108,7 +108,7 @@ pub fn first_record(records: &[u8]) -> Result<(WindRecord, &[u8]), Refusal>
     Ok((record, rest))
 }
 
-// A leaf: the winds of a record of finite numbers; a size above 4096 becomes 4096, which is out of range as well.
+// A leaf, and no From, since it asks that the numbers are finite: the winds of a record; a size above 4096 becomes 4096, which is out of range as well.
 #[tactic(auto, using(crate::proofs::DoubleLaws::capped_zero), unfolding(rules::specs::WindRecords::components))]
 pub fn winds_of(w: WindRecord) -> Winds
     requires t { T (finite (components w).east_bits) }

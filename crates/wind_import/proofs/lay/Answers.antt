@@ -13,7 +13,7 @@ pub loop-e-init : goal.loop-e-init
 loop-e-init c = record { walked = walked_none _; written = written_none _ _ _ _ _ }
 
 pub unreachable-requires : goal.unreachable-requires
-unreachable-requires c = never-refused _ _ _ c.loop-e.invariant.walked _ _ _ c.loop-e-test.true c.in_default.ensures.winds c.requires.tt_value
+unreachable-requires c = never-refused _ _ _ c.loop-e.invariant.walked _ _ _ c.loop-e-test.true c.in_default.ensures.winds c.requires.passed
 
 -- the winds, read back from their bits
 east-back : (c : In-Ok) → to_z w16 (of_z w16 c.in-Ok.winds.east) ≡ c.in-Ok.winds.east
@@ -28,5 +28,5 @@ loop-e-preserved c =
     let w = winds-are _ _ _ c.loop-e.invariant.walked _ c.in-Ok.ensures.winds in
     record {
       walked = walked_more _ _ _ c.loop-e.invariant.walked _ _ c.in-Ok.ensures.winds _ c.in-Ok.ensures.rest;
-      written = written-store (east_wind c.args.records.now) (north_wind c.args.records.now) _ _ _ _ (omega arith) (omega arith) (omega arith) (omega (arith, c.requires.n_in_bounds)) c.loop-e.invariant.written (north-back at ∙ w.1) (east-back at ∙ w.0);
+      written = written-store (east_wind c.args.records.now) (north_wind c.args.records.now) _ _ _ _ (omega arith) (omega arith) (omega arith) (omega (arith, c.requires.room)) c.loop-e.invariant.written (north-back at ∙ w.1) (east-back at ∙ w.0);
     }
