@@ -1,17 +1,16 @@
 -- Bytes added to a buffer, one after the other.
-use mathlib.Core.Path.{◌≡◌, refl, sym, ap, subst, ◌∙◌}
-use mathlib.Core.List.{List, [], ◌∷◌, ◌++◌}
-use Prim.Native.Nat.{ℕ, ◌+◌, ◌*◌, ◌-◌, ◌≤◌, ◌<◌}
-use native.Mathlib.Nat.{le_trans, suc-mul, mul-one, zero-sub}
+use mathlib.Core.Path.{◌≡◌, sym, ap, subst, ◌∙◌}
+use mathlib.Core.List.{List, [], ◌++◌}
+use Prim.Native.Nat.{ℕ, ◌+◌, ◌*◌, ◌≤◌, ◌<◌}
+use native.Mathlib.Nat.{le_trans, suc-mul}
 use native.Mathlib.Numerals.{add-one}
 use native.Mathlib.Omega.{arith}
-use lib.ListN.{length, get_or, set, take, drop, length-append, take-append-drop}
-use lib.Seq.{drop-drop, take_at, set_split, ext_get_or}
+use lib.ListN.{length, take, drop, length-append, take-append-drop}
+use lib.Seq.{take_at}
 use Rattle.whole.specs.Table.{blocks, overwrite}
-use Rattle.whole.proofs.TableLaws.{blocks_more, length-blocks, get_d-blocks, table-blocks}
-use Rattle.whole.proofs.OverwriteLaws.{length-overwrite, part_room, front-is, table-const}
+use Rattle.whole.proofs.TableLaws.{blocks_more}
+use Rattle.whole.proofs.OverwriteLaws.{length-overwrite, part_room, front-is}
 use Rattle.whole.proofs.ListParts.{overwrite-next}
-use Rattle.rules.specs.Text.{space, blanks, right_aligned}
 use Rattle.text.specs.Added.{Added}
 
 module _ {n at e : ℕ} {a old mid : List ℕ} (p : Added n at a old mid e) where
@@ -26,10 +25,6 @@ module _ {n at e : ℕ} {a old mid : List ℕ} (p : Added n at a old mid e) wher
   -- a larger bound
   pub wider : (m : ℕ) → n ≤ m → Added m at a old mid e
   wider m h = record { same = p.same; ends = p.ends; few = le_trans p.few h; fits = p.fits }
-
-  -- the end, written otherwise
-  pub ends_at : (f : ℕ) → f ≡ e → Added n at a old mid f
-  ends_at f h = record { same = p.same; ends = h ∙ p.ends; few = p.few; fits = p.fits }
 
   -- more bytes, added where they end
   pub then : {m f : ℕ} {b new : List ℕ} → Added m e b mid new f → Added (n + m) at (a ++ b) old new f
@@ -64,42 +59,6 @@ module _ (w : ℕ) (f : ℕ → List ℕ) where
     pub block_more : {e' : ℕ} {new : List ℕ} → Added w e (f i) mid new e' → Added ((i + 1) * w) at (blocks (i + 1) f) old new e'
     block_more {e'} {new} q = let k : i * w + w ≡ (i + 1) * w = sym (rw (add-one i) (suc-mul i w)) in
         subst (λ (m : ℕ). Added m at (blocks (i + 1) f) old new e') k (same_bytes (sym (blocks_more i f)) (then p q))
-
--- ---- the bytes of a word, one by one
-pub byte-added : (at x : ℕ) (l : List ℕ) → at < length l → Added 1 at (x ∷ []) l (set l at x) (at + 1)
-unfolding overwrite
-byte-added at x l h = record { same = set_split l at x h ∙ ap (λ y. take at l ++ (x ∷ y)) (rw (add-one at) at (sym (drop-drop 1 at l))); ends = refl; few = omega arith; fits = omega arith }
-
-abbrev pub byte_of : List ℕ → ℕ → List ℕ
-byte_of l i = get_or l i 0 ∷ []
-
-pub bytes-are : (l : List ℕ) → blocks (length l) (byte_of l) ≡ l
-bytes-are l = ext_get_or 0 (blocks (length l) (byte_of l)) l long (λ i h. ap (λ k. get_or (blocks (length l) (byte_of l)) k 0) (sym (omega arith)) ∙ get_d-blocks 1 (byte_of l) (λ _. refl) (length l) i 0 0 (omega (arith, long)) (omega arith))
-  where
-    long : length (blocks (length l) (byte_of l)) ≡ length l
-    long = length-blocks 1 (byte_of l) (λ _. refl) (length l) ∙ mul-one (length l)
-
-pub word-added : {at e : ℕ} {old new : List ℕ} (l : List ℕ) → Added (length l * 1) at (blocks (length l) (byte_of l)) old new e → Added (length l) at l old new e
-word-added {at} {e} {old} {new} l p = wider (same_bytes (bytes-are l) p) (length l) (omega arith)
-
--- a word that is b, which has at most n bytes
-pub word-is : {n at e : ℕ} {a b old new : List ℕ} → a ≡ b → length b ≤ n → Added (length a) at a old new e → Added n at b old new e
-word-is {n} h few p = same_bytes h (wider p n (omega (arith, ap length h)))
-
--- blanks, one at a time
-pub blanks-added : {at e : ℕ} {old new : List ℕ} (n : ℕ) → Added (n * 1) at (blocks n (λ _. space)) old new e → Added n at (blanks n) old new e
-blanks-added n p = wider (same_bytes (sym (table-blocks n (λ _. 32)) ∙ table-const n 32) p) n (omega arith)
-
--- blanks and a word behind them are the word right-aligned
-pub aligned-added : {at e f : ℕ} {old mid new : List ℕ} (width m : ℕ) (word : List ℕ) → m ≡ width - length word → Added m at (blanks m) old mid e → Added (length word) e word mid new f
-    → Added (length (right_aligned width word)) at (right_aligned width word) old new f
-unfolding right_aligned
-aligned-added width m word h p q = let all = same_bytes (ap (λ k. blanks k ++ word) h) (then p q) in record { same = all.same; ends = all.ends; few = omega arith; fits = all.fits }
-
--- in no width a word stands as it is
-pub unaligned : (word : List ℕ) → right_aligned 0 word ≡ word
-unfolding right_aligned
-unaligned word = ap (λ k. blanks k ++ word) (zero-sub (length word))
 
 -- bytes that were added at the front are the buffer's front
 module _ {n end : ℕ} {bytes old new : List ℕ} (a : Added n 0 bytes old new end) where

@@ -1,2 +1,3 @@
--- What a function that adds bytes to a buffer leaves.
+-- What a function that adds bytes leaves: in a buffer, and in a text.
 pub mod Added
+pub mod Adds

@@ -1,83 +1,91 @@
-// Words, blanks and numbers in base ten, added to a buffer at a place. Each function that adds bytes is a leaf, asks for room and answers
-// where they end.
+// Text in a lent buffer: words, blanks and numbers in base ten, each added behind what stands there.
+// Each function that adds bytes is a leaf and asks for room.
 #![tactic(auto)]
 
-ghost use Rattle.std.specs.Prelude.{◌≡◌, ◌+◌, ◌-◌, ◌≤◌, nat_abs, length};
+ghost use Rattle.std.specs.Prelude.{◌≡◌, ◌≤◌, length};
 ghost use Rattle.rules.specs.Text.{decimal, signed, newline, blanks, right_aligned};
-ghost use Rattle.text.specs.Added.{Added};
+ghost use Rattle.text.specs.Adds.{Adds, HasRoom};
 
-// The bytes of a word.
-pub fn put(out: &mut [u8], at: usize, word: &[u8]) -> usize
-    requires { at + length word.now ≤ length out.old }
-    ensures { Added (length word.now) at word.now out.old out.new result }
-{
-    for k in 0..word.len() {
-        out[at + k] = word[k];
+// The text is the buffer's bytes before `end`; the bytes from there on are the lender's.
+#[derive(Drop)]
+pub struct Text<'a> {
+    buffer: &'a mut [u8],
+    end: usize,
+}
+
+impl<'a> Text<'a> {
+    // No text, at the front of a buffer.
+    pub fn new(buffer: &'a mut [u8]) -> Text<'a>
+        ensures same_buffer { result.buffer.ghost_name ≡ buffer.entry.ghost_name }
+        ensures bytes { result.buffer.now ≡ buffer.old }
+        ensures empty { result.end ≡ 0 }
+    {
+        Text { buffer, end: 0 }
     }
-    at + word.len()
-}
 
-// The newline that ends a line.
-pub fn newline(out: &mut [u8], at: usize) -> usize
-    requires { at + 1 ≤ length out.old }
-    ensures { Added 1 at newline out.old out.new result }
-{
-    put(out, at, b"\n")
-}
-
-// n blanks.
-pub fn blanks(out: &mut [u8], at: usize, n: usize) -> usize
-    requires { at + n ≤ length out.old }
-    ensures { Added n at (blanks n) out.old out.new result }
-{
-    for k in 0..n {
-        out[at + k] = 32;
+    // How many bytes the text has.
+    pub fn len(&self) -> usize
+        ensures { result ≡ self.now.end }
+    {
+        let Text { end, .. } = *self;
+        end
     }
-    at + n
-}
 
-// How many bytes are missing to a width.
-fn missing(width: usize, length: usize) -> usize
-    ensures { result ≡ width - length }
-{
-    if width < length { 0 } else { width - length }
-}
-
-// A number in base ten, right-aligned: blanks before it up to the width, and none before a number that is as wide or wider.
-pub fn right_aligned(out: &mut [u8], at: usize, width: usize, n: u64) -> usize
-    requires { at + length (right_aligned width (decimal n)) ≤ length out.old }
-    ensures { Added (length (right_aligned width (decimal n))) at (right_aligned width (decimal n)) out.old out.new result }
-{
-    let mut digits = [0u8; 20];
-    let k = io::decimal(n, &mut digits);
-    let end = blanks(out, at, missing(width, k));
-    put(out, end, &digits[..k])
-}
-
-// A number in base ten.
-pub fn number(out: &mut [u8], at: usize, n: u64) -> usize
-    requires { at + 20 ≤ length out.old }
-    ensures { Added 20 at (decimal n) out.old out.new result }
-{
-    right_aligned(out, at, 0, n)
-}
-
-// A number without its sign.
-fn absolute(z: i32) -> u64
-    ensures { result ≡ nat_abs z }
-{
-    if z < 0 { -(z as i64) as u64 } else { z as u64 }
-}
-
-// A signed number in base ten.
-pub fn signed(out: &mut [u8], at: usize, z: i32) -> usize
-    requires { at + 21 ≤ length out.old }
-    ensures { Added 21 at (signed z) out.old out.new result }
-{
-    let n = absolute(z);
-    if z < 0 {
-        let end = put(out, at, b"-");
-        return number(out, end, n);
+    // The bytes of a word.
+    pub fn put(&mut self, word: &[u8])
+        requires { HasRoom (length word.now) self.old }
+        ensures { Adds (length word.now) word.now self.old self.new }
+    {
+        let end = self.end + word.len();
+        self.buffer[self.end..end].copy_from_slice(word);
+        self.end = end;
     }
-    number(out, at, n)
+
+    // The newline that ends a line.
+    pub fn newline(&mut self)
+        requires { HasRoom 1 self.old }
+        ensures { Adds 1 newline self.old self.new }
+    {
+        self.put(b"\n");
+    }
+
+    // n blanks.
+    pub fn blanks(&mut self, n: usize)
+        requires { HasRoom n self.old }
+        ensures { Adds n (blanks n) self.old self.new }
+    {
+        let end = self.end + n;
+        self.buffer[self.end..end].fill(b' ');
+        self.end = end;
+    }
+
+    // A number in base ten, right-aligned: blanks before it up to the width, and none before a number that is as wide or wider.
+    pub fn right_aligned(&mut self, width: usize, n: u64)
+        requires { HasRoom (length (right_aligned width (decimal n))) self.old }
+        ensures { Adds (length (right_aligned width (decimal n))) (right_aligned width (decimal n)) self.old self.new }
+    {
+        let mut digits = [0u8; 20];
+        let k = io::decimal(n, &mut digits);
+        self.blanks(width.saturating_sub(k));
+        self.put(&digits[..k]);
+    }
+
+    // A number in base ten.
+    pub fn number(&mut self, n: u64)
+        requires { HasRoom 20 self.old }
+        ensures { Adds 20 (decimal n) self.old self.new }
+    {
+        self.right_aligned(0, n);
+    }
+
+    // A signed number in base ten.
+    pub fn signed(&mut self, z: i32)
+        requires { HasRoom 21 self.old }
+        ensures { Adds 21 (signed z) self.old self.new }
+    {
+        if z < 0 {
+            self.put(b"-");
+        }
+        self.number(u64::from(z.unsigned_abs()));
+    }
 }
