@@ -10,18 +10,23 @@ use lib.ListN.{length}
 use Rattle.whole.specs.Table.{blocks, overwrite}
 use Rattle.rules.specs.Text.{blanks, right_aligned}
 use Rattle.text.specs.declared.Text.{Text}
+use Rattle.text.specs.Added.{Added}
 use Rattle.text.specs.Adds.{Adds, HasRoom}
 use Rattle.text.proofs.AddedLaws as buffer
+
+-- bytes added to the same buffer
+adds : {n : ℕ} {bytes : List ℕ} {old new : Text} → new.buffer.ghost_name ≡ old.buffer.ghost_name → Added n old.end bytes old.buffer.now new.buffer.now new.end → Adds n bytes old new
+adds same a = record { same_buffer = same; same_size = buffer.added-length a; added = a }
 
 -- bytes written over the buffer at the text's end, and the end moved behind them
 pub written : {t : Text} {k e : ℕ} {word bytes : List ℕ} → word ≡ bytes → length bytes ≡ k → e ≡ k → HasRoom k t
     → Adds k bytes t (record { buffer = set_vals (put_mid t.end e t.buffer.now word) t.buffer; end = t.end + k })
 unfolding overwrite
-written same h f room = record { same_buffer = refl; added = record { same = rw (same, h, f) refl; ends = omega arith; few = omega arith; fits = omega arith } }
+written same h f room = adds refl (record { same = rw (same, h, f) refl; ends = omega arith; few = omega arith; fits = omega arith })
 
 -- the same bytes, written otherwise
 pub same_bytes : {n : ℕ} {a b : List ℕ} {old new : Text} → a ≡ b → Adds n a old new → Adds n b old new
-same_bytes h p = record { same_buffer = p.same_buffer; added = buffer.same_bytes h p.added }
+same_bytes h p = adds p.same_buffer (buffer.same_bytes h p.added)
 
 module _ {n : ℕ} {a : List ℕ} {old mid : Text} (p : Adds n a old mid) where
   -- the room that is left
@@ -30,23 +35,23 @@ module _ {n : ℕ} {a : List ℕ} {old mid : Text} (p : Adds n a old mid) where
 
   -- a larger bound
   pub wider : (m : ℕ) → n ≤ m → Adds m a old mid
-  wider m h = record { same_buffer = p.same_buffer; added = buffer.wider p.added m h }
+  wider m h = adds p.same_buffer (buffer.wider p.added m h)
 
   -- more bytes behind them
   pub then : {m : ℕ} {b : List ℕ} {new : Text} → Adds m b mid new → Adds (n + m) (a ++ b) old new
-  then q = record { same_buffer = q.same_buffer ∙ p.same_buffer; added = buffer.then p.added q.added }
+  then q = adds (q.same_buffer ∙ p.same_buffer) (buffer.then p.added q.added)
 
 -- ---- a loop that adds a block of at most w bytes at every turn
 module _ (w : ℕ) (f : ℕ → List ℕ) where
   pub blocks-none : (t : Text) → HasRoom 0 t → Adds (0 * w) (blocks 0 f) t t
-  blocks-none t h = record { same_buffer = refl; added = buffer.blocks-none w f t.end t.buffer.now (omega arith) }
+  blocks-none t h = adds refl (buffer.blocks-none w f t.end t.buffer.now (omega arith))
 
   module _ {i : ℕ} {old mid : Text} (p : Adds (i * w) (blocks i f) old mid) where
     pub block_room : (n : ℕ) → i < n → HasRoom (n * w) old → HasRoom w mid
     block_room n h room = buffer.block_room w f p.added n h room
 
     pub block_more : {new : Text} → Adds w (f i) mid new → Adds ((i + 1) * w) (blocks (i + 1) f) old new
-    block_more q = record { same_buffer = q.same_buffer ∙ p.same_buffer; added = buffer.block_more w f p.added q.added }
+    block_more q = adds (q.same_buffer ∙ p.same_buffer) (buffer.block_more w f p.added q.added)
 
 -- blanks and a word behind them are the word right-aligned
 pub aligned-added : {old mid new : Text} (width m : ℕ) (word : List ℕ) → m ≡ width - length word → Adds m (blanks m) old mid → Adds (length word) word mid new
@@ -55,7 +60,7 @@ unfolding right_aligned
 aligned-added width m word h p q =
     let all = rw h at (then p q) in
     let a = all.added in
-    record { same_buffer = all.same_buffer; added = record { same = a.same; ends = a.ends; few = omega arith; fits = a.fits } }
+    adds all.same_buffer (record { same = a.same; ends = a.ends; few = omega arith; fits = a.fits })
 
 -- in no width a word stands as it is
 pub unaligned : (word : List ℕ) → right_aligned 0 word ≡ word

@@ -1,5 +1,5 @@
-// The lines that the program prints, as bytes in a buffer, each added at a place and answering where it ends.
-// Every function here is a leaf: the buffer has room for the longest line, and the shape is admitted where it is asked for.
+// The lines that the program prints, each added to a text.
+// Every function here is a leaf: the text has room for the longest line, and the shape is admitted where it is asked for.
 // `grid_line`, `refused_line` and `tracer_lines` are what the program calls.
 #![tactic(auto)]
 
@@ -7,80 +7,72 @@ ghost use Rattle.std.specs.Prelude.{◌≡◌, ◌+◌, ◌*◌, ◌≤◌, ◌<
 ghost use Rattle.rules.specs.Field.{faces, Admitted};
 ghost use Rattle.rules.specs.Grid.{face_index};
 ghost use Rattle.rules.specs.Program.{way_word, grid_line, face_line, total_line, refused_line, face_row, face_lines, tracer_lines};
-ghost use Rattle.text.specs.Added.{Added};
+ghost use Rattle.text.specs.Adds.{Adds, HasRoom};
 
 use rules::{Shape, Way};
-use text::{newline, number, put, signed};
+use text::Text;
 
 // The line of the grid: nx, ny and how many tracers.
-pub fn grid_line(out: &mut [u8], at: usize, shape: Shape) -> usize
-    requires { at + 68 ≤ length out.old }
-    ensures { Added 68 at (grid_line shape) out.old out.new result }
+pub fn grid_line(text: &mut Text, shape: Shape)
+    requires { HasRoom 68 text.old }
+    ensures { Adds 68 (grid_line shape) text.old text.new }
 {
-    let mut end = put(out, at, b"grid ");
-    end = number(out, end, shape.nx as u64);
-    end = put(out, end, b" ");
-    end = number(out, end, shape.ny as u64);
-    end = put(out, end, b" ");
-    end = number(out, end, shape.tracers as u64);
-    newline(out, end)
+    text.put(b"grid ");
+    text.number(shape.nx as u64);
+    text.put(b" ");
+    text.number(shape.ny as u64);
+    text.put(b" ");
+    text.number(shape.tracers as u64);
+    text.newline();
 }
 
 // The line of a refusal: its number.
-pub fn refused_line(out: &mut [u8], at: usize, n: u8) -> usize
-    requires { at + 29 ≤ length out.old }
-    ensures { Added 29 at (refused_line n) out.old out.new result }
+pub fn refused_line(text: &mut Text, n: u8)
+    requires { HasRoom 29 text.old }
+    ensures { Adds 29 (refused_line n) text.old text.new }
 {
-    let mut end = put(out, at, b"refused ");
-    end = number(out, end, n as u64);
-    newline(out, end)
+    text.put(b"refused ");
+    text.number(u64::from(n));
+    text.newline();
 }
 
 // The line of one face of element (i, j): its tracer, which way it looks, i, j and its limited flux.
-fn face_line(
-    out: &mut [u8],
-    at: usize,
-    tracer: usize,
-    way: Way,
-    i: usize,
-    j: usize,
-    flux: i32,
-) -> usize
-    requires { at + 96 ≤ length out.old }
-    ensures { Added 96 at (face_line tracer way i j flux) out.old out.new result }
+fn face_line(text: &mut Text, tracer: usize, way: Way, i: usize, j: usize, flux: i32)
+    requires { HasRoom 96 text.old }
+    ensures { Adds 96 (face_line tracer way i j flux) text.old text.new }
 {
-    let mut end = put(out, at, b"face ");
-    end = number(out, end, tracer as u64);
-    end = way_word(out, end, way);
-    end = number(out, end, i as u64);
-    end = put(out, end, b" ");
-    end = number(out, end, j as u64);
-    end = put(out, end, b" ");
-    end = signed(out, end, flux);
-    newline(out, end)
+    text.put(b"face ");
+    text.number(tracer as u64);
+    way_word(text, way);
+    text.number(i as u64);
+    text.put(b" ");
+    text.number(j as u64);
+    text.put(b" ");
+    text.signed(flux);
+    text.newline();
 }
 
 // Which way a face looks, between spaces.
-fn way_word(out: &mut [u8], at: usize, way: Way) -> usize
-    requires { at + 7 ≤ length out.old }
-    ensures { Added 7 at (way_word way) out.old out.new result }
+fn way_word(text: &mut Text, way: Way)
+    requires { HasRoom 7 text.old }
+    ensures { Adds 7 (way_word way) text.old text.new }
 {
     match way {
-        Way::East => put(out, at, b" east "),
-        Way::North => put(out, at, b" north "),
+        Way::East => text.put(b" east "),
+        Way::North => text.put(b" north "),
     }
 }
 
 // The line of a tracer's total.
-fn total_line(out: &mut [u8], at: usize, tracer: usize, total: u64) -> usize
-    requires { at + 48 ≤ length out.old }
-    ensures { Added 48 at (total_line tracer total) out.old out.new result }
+fn total_line(text: &mut Text, tracer: usize, total: u64)
+    requires { HasRoom 48 text.old }
+    ensures { Adds 48 (total_line tracer total) text.old text.new }
 {
-    let mut end = put(out, at, b"total ");
-    end = number(out, end, tracer as u64);
-    end = put(out, end, b" ");
-    end = number(out, end, total);
-    newline(out, end)
+    text.put(b"total ");
+    text.number(tracer as u64);
+    text.put(b" ");
+    text.number(total);
+    text.newline();
 }
 
 // Where the first face of row j that looks one way stands in the report.
@@ -97,65 +89,39 @@ fn first_face(shape: Shape, way: Way, j: usize) -> usize
 }
 
 // The faces of row j that look one way.
-fn face_row(
-    out: &mut [u8],
-    at: usize,
-    shape: Shape,
-    tracer: usize,
-    way: Way,
-    report: &[i32],
-    j: usize,
-) -> usize
+fn face_row(text: &mut Text, shape: Shape, tracer: usize, way: Way, report: &[i32], j: usize)
     requires admitted { Admitted shape }
     requires j_lt_ny { j < shape.ny }
     requires shape_in_bounds { faces shape ≤ length report.now }
-    requires nx_in_bounds { at + shape.nx * 96 ≤ length out.old }
-    ensures { Added (shape.nx * 96) at (face_row shape tracer way report.now j) out.old out.new result }
+    requires room { HasRoom (shape.nx * 96) text.old }
+    ensures { Adds (shape.nx * 96) (face_row shape tracer way report.now j) text.old text.new }
 {
     let first = first_face(shape, way, j);
-    let mut end = at;
-    for i in 0..shape.nx {
-        end = face_line(out, end, tracer, way, i, j, report[first + i]);
+    for (i, &flux) in report[first..first + shape.nx].iter().enumerate() {
+        face_line(text, tracer, way, i, j, flux);
     }
-    end
 }
 
 // All faces that look one way.
-fn face_lines(
-    out: &mut [u8],
-    at: usize,
-    shape: Shape,
-    tracer: usize,
-    way: Way,
-    report: &[i32],
-) -> usize
+fn face_lines(text: &mut Text, shape: Shape, tracer: usize, way: Way, report: &[i32])
     requires admitted { Admitted shape }
     requires shape_in_bounds { faces shape ≤ length report.now }
-    requires nx_in_bounds { at + shape.ny * (shape.nx * 96) ≤ length out.old }
-    ensures { Added (shape.ny * (shape.nx * 96)) at (face_lines shape tracer way report.now) out.old out.new result }
+    requires room { HasRoom (shape.ny * (shape.nx * 96)) text.old }
+    ensures { Adds (shape.ny * (shape.nx * 96)) (face_lines shape tracer way report.now) text.old text.new }
 {
-    let mut end = at;
     for j in 0..shape.ny {
-        end = face_row(out, end, shape, tracer, way, report, j);
+        face_row(text, shape, tracer, way, report, j);
     }
-    end
 }
 
 // What is printed of a tracer after its step: its east faces, its north faces, and its total.
-pub fn tracer_lines(
-    out: &mut [u8],
-    at: usize,
-    shape: Shape,
-    tracer: usize,
-    report: &[i32],
-    total: u64,
-) -> usize
+pub fn tracer_lines(text: &mut Text, shape: Shape, tracer: usize, report: &[i32], total: u64)
     requires admitted { Admitted shape }
     requires shape_in_bounds { faces shape ≤ length report.now }
-    requires nx_in_bounds { at + (2 * (shape.ny * (shape.nx * 96)) + 48) ≤ length out.old }
-    ensures { Added (2 * (shape.ny * (shape.nx * 96)) + 48) at (tracer_lines shape tracer report.now total) out.old out.new result }
+    requires room { HasRoom (2 * (shape.ny * (shape.nx * 96)) + 48) text.old }
+    ensures { Adds (2 * (shape.ny * (shape.nx * 96)) + 48) (tracer_lines shape tracer report.now total) text.old text.new }
 {
-    let mut end = face_lines(out, at, shape, tracer, Way::East, report);
-    end = face_lines(out, end, shape, tracer, Way::North, report);
-    total_line(out, end, tracer, total)
+    face_lines(text, shape, tracer, Way::East, report);
+    face_lines(text, shape, tracer, Way::North, report);
+    total_line(text, tracer, total);
 }

@@ -1,9 +1,9 @@
--- A row of faces: after i of them their lines stand in the buffer, each read from its place in the report.
-use Prim.Native.Nat.{◌≤◌, ◌*◌}
+-- A row of faces: after i of them their lines are added.
+use Prim.Native.Nat.{◌*◌}
 use Rattle.whole.specs.Table.{blocks}
-use Rattle.text.specs.Added.{Added}
-use Rattle.text_lines.proofs.RowLaws.{line_from}
+use Rattle.text.specs.Adds.{Adds}
+use Rattle.text_lines.proofs.RowLaws.{line_of}
 use Rattle.text_lines.proofs.face_row.Given as goal
 
 abbrev pub invariant-loop-i : goal.invariant-loop-i
-invariant-loop-i l = (l.i ≤ l.i-end) × Added (l.i * 96) l.at (blocks l.i (line_from l.tracer l.way l.report l.j l.first)) l.initial.out l.out l.end
+invariant-loop-i l = Adds (l.i * 96) (blocks l.i (line_of l.tracer l.way l.j l.flux-items)) l.initial.text l.text
