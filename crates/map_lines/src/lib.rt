@@ -71,14 +71,7 @@ fn number(field: &[u32], shape: Shape, tracer: usize, line: BlockLine, i: usize)
 }
 
 // Column i of a line: its number, or blanks where the grid has no such column.
-fn column(
-    text: &mut Text,
-    field: &[u32],
-    shape: Shape,
-    tracer: usize,
-    line: BlockLine,
-    i: usize,
-)
+fn column(text: &mut Text, field: &[u32], shape: Shape, tracer: usize, line: BlockLine, i: usize)
     requires printable { Printable shape tracer field.now }
     requires there { There shape line }
     requires room { HasRoom 10 text.old }
@@ -92,14 +85,7 @@ fn column(
 }
 
 // A line of block b.
-fn line(
-    text: &mut Text,
-    field: &[u32],
-    shape: Shape,
-    tracer: usize,
-    b: usize,
-    line: BlockLine,
-)
+fn line(text: &mut Text, field: &[u32], shape: Shape, tracer: usize, b: usize, line: BlockLine)
     requires printable { Printable shape tracer field.now }
     requires there { There shape line }
     requires b_bound { b < block_count shape }

@@ -66,3 +66,7 @@ aligned-added width m word h p q =
 pub unaligned : (word : List ℕ) → right_aligned 0 word ≡ word
 unfolding right_aligned
 unaligned word = ap (λ k. blanks k ++ word) (zero-sub (length word))
+
+-- a text that began at the front of a buffer, when the buffer is given back
+pub given_back : {n end : ℕ} {bytes before after : List ℕ} {old new : Text} → Adds n bytes old new → old.buffer.now ≡ before → old.end ≡ 0 → after ≡ new.buffer.now → end ≡ new.end → Added n 0 bytes before after end
+given_back p b z a e = rw (← b, a, e) (rw z at p.added)

@@ -1,0 +1,32 @@
+use mathlib.Core.Path.{◌≡◌}
+use native.Mathlib.Omega.{arith}
+use Rattle.rules.specs.Map.{block_line}
+use Rattle.rules.proofs.MapLaws.{block-starts}
+use Rattle.text.proofs.AddsLaws.{room, then, blocks-none, block_room, block_more}
+use Rattle.map_lines.proofs.line.Goals as goal
+
+pub overflow_mul-west : goal.overflow_mul-west
+overflow_mul-west c =
+    record { fits = omega (arith, block-starts c.args.shape c.args.b c.requires.b_bound, c.requires.printable.admits.nx-small) }
+
+pub loop-c-init : goal.loop-c-init
+loop-c-init c =
+    (omega arith, blocks-none 10 _ c.first.new.text (room c.first.ensures 0 (omega (arith, c.requires.room))))
+
+pub overflow_add-west : goal.overflow_add-west
+overflow_add-west c =
+    record { fits = omega (arith, block-starts c.args.shape c.args.b c.requires.b_bound, c.requires.printable.admits.nx-small) }
+
+pub column-requires : goal.column-requires
+column-requires c =
+    record { printable = c.requires.printable; there = c.requires.there; room = block_room 10 _ c.loop-c.invariant.1 7 c.loop-c-test.true (room c.first.ensures 70 (omega (arith, c.requires.room))) }
+
+pub loop-c-preserved : goal.loop-c-preserved
+loop-c-preserved c =
+    (omega arith, block_more 10 _ c.loop-c.invariant.1 c.column.ensures)
+
+pub returns : goal.returns
+unfolding block_line
+returns c =
+    let e : c.loop-c.c ≡ 7 = omega arith in
+    then c.first.ensures (then (rw e at c.loop-c.invariant.1) c.newline.ensures)
