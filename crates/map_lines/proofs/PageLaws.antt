@@ -1,14 +1,15 @@
 -- The numbers of a line, and the length of a page by its blocks.
 use mathlib.Core.Path.{◌≡◌, subst}
-use mathlib.Core.List.{List}
-use Prim.Native.Nat.{ℕ, ◌+◌, ◌*◌, ◌^◌, ◌<◌}
+use Prim.Native.Nat.{ℕ, ◌+◌, ◌*◌, ◌^◌, ◌≤◌, ◌<◌}
 use native.Mathlib.Nat.{mul_assoc}
 use native.Mathlib.Omega.{arith}
 use Rattle.rules.specs.declared.Shape.{Shape}
-use Rattle.rules.specs.Field.{quadratic, part}
+use Rattle.rules.specs.Field.{quadratic, Admitted}
 use Rattle.rules.specs.Map.{block_count, page_length}
-use Rattle.rules.proofs.MapLaws.{row_small}
-use Rattle.map_lines.specs.PageLines.{Printable, There, line_number}
+use Rattle.rules.proofs.MapLaws.{row_small, lines-few}
+use Rattle.map_lines.specs.PageLines.{There}
+use Rattle.map_lines.specs.PageNumbers.{page_part, numbers}
+use Rattle.map_lines.specs.declared.TracerPage.{TracerPage}
 use Rattle.map_lines.specs.declared.BlockLine.{BlockLine}
 use Rattle.map_lines.specs.declared.BlockLine.TheVariants.{Header, Row}
 
@@ -17,11 +18,15 @@ pub row-there : (g : Shape) (l : BlockLine) {j : ℕ} → l ≡ Row j → There 
 row-there g l e t = subst (There g) e t
 
 -- the number of a line has ten digits at most
-pub line-number-small : (g : Shape) (s : ℕ) (field : List ℕ) → Printable g s field → (l : BlockLine) → There g l → (i : ℕ) → i < g.nx → line_number g (part quadratic g s field) l i < 10 ^ 10
-line-number-small g s field h Header t i c = omega (arith, h.admits.nx-small)
-line-number-small g s field h (Row j) t i c = row_small quadratic g (part quadratic g s field) h.admits h.small j t i c
+pub numbers-small : (p : TracerPage) (l : BlockLine) → There p.shape l → (i : ℕ) → i < p.shape.nx → numbers p l i < 10 ^ 10
+numbers-small p Header t i c = omega (arith, p.printable.admits.nx-small)
+numbers-small p (Row j) t i c = row_small quadratic p.shape (page_part p) p.printable.admits p.printable.small j t i c
 
 -- a page is its blocks and the line of the sum
 pub page-is : (g : Shape) → block_count g * ((g.ny + 1) * 74) + 74 ≡ page_length g
 unfolding page_length
 page-is g = omega (arith, mul_assoc (block_count g) (g.ny + 1) 74)
+
+-- a page has at most 651 lines
+pub lines-above : (g : Shape) → Admitted g → (n : ℕ) → n ≡ block_count g → n * (g.ny + 1) ≤ 650
+lines-above g h n e = rw e (lines-few g h)

@@ -1,2 +1,3 @@
--- What the functions that add a page's lines ask for, and the text of a line by its case.
+-- What the functions that add a page's lines ask for, the text of a line by its case, and its numbers.
 pub mod PageLines
+pub mod PageNumbers

@@ -44,72 +44,80 @@ pub fn page_length(shape: Shape) -> usize
     (block_count(shape) * (shape.ny + 1) + 1) * LINE
 }
 
-// What comes before the columns of a line.
-fn first(text: &mut Text, shape: Shape, line: BlockLine)
-    requires admitted { Admitted shape }
-    requires there { There shape line }
-    requires room { HasRoom 3 text.old }
-    ensures { Adds 3 (line_first line) text.old text.new }
-{
-    match line {
-        BlockLine::Header => text.blanks(FIRST),
-        BlockLine::Row(j) => text.right_aligned(FIRST, j as u64),
-    }
+// The page of one tracer: every number of it fits its width.
+#[derive(Clone, Copy)]
+pub(crate) struct TracerPage<'a> {
+    field: &'a [u32],
+    shape: Shape,
+    tracer: usize,
+    ghost printable: { Printable shape tracer field.now },
 }
 
-// A line's number in column i.
-fn number(field: &[u32], shape: Shape, tracer: usize, line: BlockLine, i: usize) -> u64
-    requires printable { Printable shape tracer field.now }
-    requires there { There shape line }
-    requires i_lt_nx { i < shape.nx }
-    ensures { result ≡ line_number shape (part quadratic shape tracer field.now) line i }
-{
-    match line {
-        BlockLine::Header => i as u64,
-        BlockLine::Row(j) => field::element_mass(field, shape, tracer, i, j),
-    }
-}
+impl TracerPage<'_> {
+    ghost use Rattle.map_lines.specs.PageNumbers.{page_part, numbers};
 
-// Column i of a line: its number, or blanks where the grid has no such column.
-fn column(text: &mut Text, field: &[u32], shape: Shape, tracer: usize, line: BlockLine, i: usize)
-    requires printable { Printable shape tracer field.now }
-    requires there { There shape line }
-    requires room { HasRoom 10 text.old }
-    ensures { Adds 10 (column_text shape (line_number shape (part quadratic shape tracer field.now) line) i) text.old text.new }
-{
-    if i < shape.nx {
-        text.right_aligned(WIDTH, number(field, shape, tracer, line, i));
-    } else {
-        text.blanks(WIDTH);
+    // What comes before the columns of a line.
+    fn first(&self, text: &mut Text, line: BlockLine)
+        requires there { There self.now.shape line }
+        requires room { HasRoom 3 text.old }
+        ensures { Adds 3 (line_first line) text.old text.new }
+    {
+        match line {
+            BlockLine::Header => text.blanks(FIRST),
+            BlockLine::Row(j) => text.right_aligned(FIRST, j as u64),
+        }
     }
-}
 
-// A line of block b.
-fn line(text: &mut Text, field: &[u32], shape: Shape, tracer: usize, b: usize, line: BlockLine)
-    requires printable { Printable shape tracer field.now }
-    requires there { There shape line }
-    requires b_bound { b < block_count shape }
-    requires room { HasRoom 74 text.old }
-    ensures { Adds 74 (block_line shape (line_first line) (line_number shape (part quadratic shape tracer field.now) line) b) text.old text.new }
-{
-    let west = COLUMNS * b;
-    first(text, shape, line);
-    for c in 0..COLUMNS {
-        column(text, field, shape, tracer, line, west + c);
+    // A line's number in column i.
+    fn number(&self, line: BlockLine, i: usize) -> u64
+        requires there { There self.now.shape line }
+        requires i_lt_nx { i < self.now.shape.nx }
+        ensures { result ≡ numbers self.now line i }
+    {
+        match line {
+            BlockLine::Header => i as u64,
+            BlockLine::Row(j) => field::element_mass(self.field, self.shape, self.tracer, i, j),
+        }
     }
-    text.newline();
-}
 
-// Block b: its first line, and the rows from the northmost on.
-fn block(text: &mut Text, field: &[u32], shape: Shape, tracer: usize, b: usize)
-    requires printable { Printable shape tracer field.now }
-    requires b_bound { b < block_count shape }
-    requires room { HasRoom ((shape.ny + 1) * 74) text.old }
-    ensures { Adds ((shape.ny + 1) * 74) (block_text quadratic shape (part quadratic shape tracer field.now) b) text.old text.new }
-{
-    line(text, field, shape, tracer, b, BlockLine::Header);
-    for j in (0..shape.ny).rev() {
-        line(text, field, shape, tracer, b, BlockLine::Row(j));
+    // Column i of a line: its number, or blanks where the grid has no such column.
+    fn column(&self, text: &mut Text, line: BlockLine, i: usize)
+        requires there { There self.now.shape line }
+        requires room { HasRoom 10 text.old }
+        ensures { Adds 10 (column_text self.now.shape (numbers self.now line) i) text.old text.new }
+    {
+        if i < self.shape.nx {
+            text.right_aligned(WIDTH, self.number(line, i));
+        } else {
+            text.blanks(WIDTH);
+        }
+    }
+
+    // A line of block b.
+    fn line(&self, text: &mut Text, b: usize, line: BlockLine)
+        requires there { There self.now.shape line }
+        requires b_bound { b < block_count self.now.shape }
+        requires room { HasRoom 74 text.old }
+        ensures { Adds 74 (block_line self.now.shape (line_first line) (numbers self.now line) b) text.old text.new }
+    {
+        let west = COLUMNS * b;
+        self.first(text, line);
+        for c in 0..COLUMNS {
+            self.column(text, line, west + c);
+        }
+        text.newline();
+    }
+
+    // Block b: its first line, and the rows from the northmost on.
+    fn block(&self, text: &mut Text, b: usize)
+        requires b_bound { b < block_count self.now.shape }
+        requires room { HasRoom ((self.now.shape.ny + 1) * 74) text.old }
+        ensures { Adds ((self.now.shape.ny + 1) * 74) (block_text quadratic self.now.shape (page_part self.now) b) text.old text.new }
+    {
+        self.line(text, b, BlockLine::Header);
+        for j in (0..self.shape.ny).rev() {
+            self.line(text, b, BlockLine::Row(j));
+        }
     }
 }
 
@@ -131,9 +139,14 @@ pub fn page(out: &mut [u8], field: &[u32], shape: Shape, tracer: usize, sum: u64
     requires shape_in_bounds { page_length shape ≤ length out.old }
     ensures { Added (page_length shape) 0 (page_text quadratic shape (part quadratic shape tracer field.now)) out.old out.new result }
 {
+    let page = TracerPage {
+        field,
+        shape,
+        tracer,
+    };
     let mut text = Text::new(out);
     for b in 0..block_count(shape) {
-        block(&mut text, field, shape, tracer, b);
+        page.block(&mut text, b);
     }
     sum_line(&mut text, sum);
     text.len()

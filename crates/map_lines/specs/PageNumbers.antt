@@ -1,0 +1,14 @@
+-- The numbers of a tracer's page.
+use Rattle.std.specs.Prelude.{List, ℕ}
+use Rattle.rules.specs.Field.{quadratic, part}
+use Rattle.map_lines.specs.declared.BlockLine.{BlockLine}
+use Rattle.map_lines.specs.declared.TracerPage.{TracerPage}
+use Rattle.map_lines.specs.PageLines.{line_number}
+
+-- the tracer's part of the field
+abbrev pub page_part : TracerPage → List ℕ
+page_part p = part quadratic p.shape p.tracer p.field.now
+
+-- the number of a line in column i
+abbrev pub numbers : TracerPage → BlockLine → ℕ → ℕ
+numbers p line i = line_number p.shape (page_part p) line i
