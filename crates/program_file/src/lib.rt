@@ -8,6 +8,7 @@ ghost use Rattle.text.specs.Added.{Added};
 ghost use Rattle.program_file.specs.FileTaken.{FileGives};
 
 use rules::{Refusal, Shape};
+use text::Text;
 
 // "It lends buffers for exactly 128 elements and eight smokes".
 pub const ELEMENTS: usize = 128;
@@ -29,5 +30,7 @@ pub fn refusal(out: &mut [u8], r: Refusal) -> usize
     requires { 29 ≤ length out.old }
     ensures { Added 29 0 (refused_line (number r)) out.old out.new result }
 {
-    text_lines::refused_line(out, 0, r.into())
+    let mut text = Text::new(out);
+    text_lines::refused_line(&mut text, r.into());
+    text.len()
 }

@@ -1,6 +1,6 @@
 -- Bytes added to a text, one after the other.
 use mathlib.Core.Path.{◌≡◌, refl, ap, ◌∙◌}
-use mathlib.Core.List.{List, ◌++◌}
+use mathlib.Core.List.{List, [], ◌++◌}
 use Prim.Native.Nat.{ℕ, ◌+◌, ◌*◌, ◌-◌, ◌≤◌, ◌<◌}
 use native.Mathlib.Nat.{zero-sub}
 use native.Mathlib.Omega.{arith}
@@ -42,9 +42,13 @@ module _ {n : ℕ} {a : List ℕ} {old mid : Text} (p : Adds n a old mid) where
   then q = adds (q.same_buffer ∙ p.same_buffer) (buffer.then p.added q.added)
 
 -- ---- a loop that adds a block of at most w bytes at every turn
+pub none-added : (t : Text) → HasRoom 0 t → Adds 0 [] t t
+none-added t h = adds refl (buffer.none-added t.end t.buffer.now (omega arith))
+
 module _ (w : ℕ) (f : ℕ → List ℕ) where
   pub blocks-none : (t : Text) → HasRoom 0 t → Adds (0 * w) (blocks 0 f) t t
-  blocks-none t h = adds refl (buffer.blocks-none w f t.end t.buffer.now (omega arith))
+  unfolding blocks
+  blocks-none t h = wider (none-added t h) (0 * w) (omega arith)
 
   module _ {i : ℕ} {old mid : Text} (p : Adds (i * w) (blocks i f) old mid) where
     pub block_room : (n : ℕ) → i < n → HasRoom (n * w) old → HasRoom w mid
