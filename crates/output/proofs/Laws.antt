@@ -15,7 +15,7 @@ use Rattle.rules.specs.declared.Shape.{Shape}
 use Rattle.rules.specs.declared.Refusal.{Refusal}
 use Rattle.rules.specs.declared.Way.{Way}
 use Rattle.rules.specs.declared.Way.TheVariants.{East, North}
-use Rattle.std.specs.Prelude.{Result, Ok, Err}
+use Rattle.std.specs.Prelude.{Result}
 use Rattle.std.specs.Result.{IsErrAnd}
 use Rattle.std.proofs.lemmas.Result.{err_from_is_err_and}
 use Rattle.rules.specs.Answers.{Answer, accepted, refused, plain, number}
@@ -26,8 +26,9 @@ use Rattle.rules.specs.Step.{tracer_step}
 use Rattle.rules.specs.Calls.{step, lengths_lent, Called, call, wind_at, total_reading, report_after, Reply}
 use Rattle.rules.specs.Program.{grid_line, face_line, face_row, face_lines, total_line, tracer_lines, next, Printed, report_lent, work_lent, stepped, up_to}
 use Rattle.rules.proofs.StepLaws.{report-length}
-use Rattle.text.specs.Added.{Added}
-use Rattle.text.proofs.AddedLaws.{none-added, wider, then, added-room}
+use Rattle.text.specs.declared.Text.{Text}
+use Rattle.text.specs.Adds.{Adds, HasRoom}
+use Rattle.text.proofs.AddsLaws.{none-added, wider, then, room}
 use Rattle.rules.proofs.GridLaws.{face-lt}
 use Rattle.output.specs.AddedLines.{tracer_room, LinesAdded, AddedOrRefused}
 use Rattle.step.proofs.CheckLaws.{stepping, plain-refused, report-accepted}
@@ -88,28 +89,28 @@ module _ (g : Shape) (wind : List ℤ) (s : ℕ) (field : List ℕ) (rl wl : ℕ
         ap (λ l. tracer_lines g s l t) (q ∙ sym (report-accepted c.reply (record { report = rep }) old p.answers))
         ∙ lines-kept g s t rep old (report-length quadratic g p.shape.nx-above p.shape.ny-above (wind_at wind) (part quadratic g s field) (stages quadratic g (wind_at wind) (part quadratic g s field))) room
 
--- ---- all tracers: after the line of the grid, the first s of them stand in the buffer from place `start` on
-pub record TracersAdded (g : Shape) (wind : List ℤ) (s : ℕ) (first now' : List ℕ) (start : ℕ) (old new : List ℕ) (end : ℕ) : Type 0 where
+-- ---- all tracers: after the line of the grid, the lines of the first s of them are added
+pub record TracersAdded (g : Shape) (wind : List ℤ) (s : ℕ) (first now' : List ℕ) (old new : Text) : Type 0 where
   pub text : List ℕ
   pub is : up_to g wind s first ≡ accepted (record { text = grid_line g ++ text; field = now' })
-  pub added : Added (s * tracer_room g) start text old new end
+  pub added : Adds (s * tracer_room g) text old new
 
 module _ (g : Shape) (wind : List ℤ) (first : List ℕ) where
-  pub tracers-none : (start : ℕ) (old : List ℕ) → start ≤ length old → TracersAdded g wind 0 first first start old old start
+  pub tracers-none : (t : Text) → HasRoom 0 t → TracersAdded g wind 0 first first t t
   unfolding up_to
-  tracers-none start old h = record { text = []; is = ap (λ l. accepted (record { text = l; field = first })) (sym (append-nil (grid_line g))); added = wider (none-added start old h) (0 * tracer_room g) (omega arith) }
+  tracers-none t h = record { text = []; is = ap (λ l. accepted (record { text = l; field = first })) (sym (append-nil (grid_line g))); added = wider (none-added t h) (0 * tracer_room g) (omega arith) }
 
   -- one tracer more
   more : (s : ℕ) → up_to g wind (s + 1) first ≡ next (up_to g wind s first) (λ p. next (stepped g wind s p.field) (λ q. accepted (record { text = p.text ++ q.text; field = q.field })))
   unfolding up_to
   more s = rw (add-one s)
 
-  module _ {s start at' : ℕ} {mid field' old : List ℕ} (p : TracersAdded g wind s first field' start old mid at') where
+  module _ {s : ℕ} {field' : List ℕ} {old mid : Text} (p : TracersAdded g wind s first field' old mid) where
     joined : up_to g wind (s + 1) first ≡ next (stepped g wind s field') (λ q. accepted (record { text = (grid_line g ++ p.text) ++ q.text; field = q.field }))
     joined = more s ∙ ap (λ a. next a (λ p. next (stepped g wind s p.field) (λ q. accepted (record { text = p.text ++ q.text; field = q.field })))) p.is
 
-    pub tracers-next : {new after : List ℕ} {end : ℕ} → LinesAdded (tracer_room g) at' (stepped g wind s field') after mid new end → TracersAdded g wind (s + 1) first after start old new end
-    tracers-next {new} {after} {end} t = record {
+    pub tracers-next : {new : Text} {after : List ℕ} → LinesAdded (tracer_room g) (stepped g wind s field') after mid new → TracersAdded g wind (s + 1) first after old new
+    tracers-next {new} {after} t = record {
       text = p.text ++ t.text;
       is = joined ∙ ap (λ a. next a (λ q. accepted (record { text = (grid_line g ++ p.text) ++ q.text; field = q.field }))) t.is
           ∙ ap (λ l. accepted (record { text = l; field = after })) (append_assoc (grid_line g) p.text t.text);
@@ -125,30 +126,23 @@ module _ (g : Shape) (wind : List ℤ) (first : List ℕ) where
 
 -- ---- in the code's terms
 -- room for the next tracer
-pub room-left : (g : Shape) (wind : List ℤ) {first now' old mid new : List ℕ} {s n start end : ℕ} → Added 68 0 (grid_line g) old mid start → TracersAdded g wind s first now' start mid new end
-    → s < n → 68 + n * tracer_room g ≤ length old → end + tracer_room g ≤ length new
-room-left g wind {s = s} {n = n} a p h room = added-room (then a p.added) (tracer_room g) (omega (arith, part_room (tracer_room g) {s = s} {n = n} h))
-
--- where lines were added
-pub added_of : (n at' : ℕ) (a : Answer Printed) (field' old new : List ℕ) {end : ℕ} {r : Result ℕ Refusal} → r ≡ Ok end → AddedOrRefused n at' a field' old new r → LinesAdded n at' a field' old new end
-added_of n at' a field' old new e t = subst (λ (x : Result ℕ Refusal). AddedOrRefused n at' a field' old new x) e t
-
-pub refusal-of : (n at' : ℕ) (a : Answer Printed) (field' old new : List ℕ) {q : Refusal} {r : Result ℕ Refusal} → r ≡ Err q → AddedOrRefused n at' a field' old new r → a ≡ refused (number q)
-refusal-of n at' a field' old new e t = subst (λ (x : Result ℕ Refusal). AddedOrRefused n at' a field' old new x) e t
+pub room-left : (g : Shape) (wind : List ℤ) {first now' : List ℕ} {old mid new : Text} {s n : ℕ} → Adds 68 (grid_line g) old mid → TracersAdded g wind s first now' mid new
+    → s < n → HasRoom (68 + n * tracer_room g) old → HasRoom (tracer_room g) new
+room-left g wind {s = s} {n = n} a p h space = room (then a p.added) (tracer_room g) (omega (arith, part_room (tracer_room g) {s = s} {n = n} h))
 
 -- where a refusal is passed on
-pub passed : (n at' : ℕ) (a : Answer Printed) (field' old new : List ℕ) (r : Result ℕ Refusal) (q : Refusal) → IsErrAnd r (λ y. y ≡ q) → a ≡ refused (number q) → AddedOrRefused n at' a field' old new r
-passed n at' a field' old new r q h e =
+pub passed : (n : ℕ) (a : Answer Printed) (field' : List ℕ) (old new : Text) (r : Result (Unit {0}) Refusal) (q : Refusal) → IsErrAnd r (λ y. y ≡ q) → a ≡ refused (number q) → AddedOrRefused n a field' old new r
+passed n a field' old new r q h e =
     let p = err_from_is_err_and r h in
-    subst (λ (x : Result ℕ Refusal). AddedOrRefused n at' a field' old new x) (sym p.1) (e ∙ ap (λ z. refused (number z)) (sym p.2))
+    subst (λ (x : Result (Unit {0}) Refusal). AddedOrRefused n a field' old new x) (sym p.1) (e ∙ ap (λ z. refused (number z)) (sym p.2))
 
 -- where a tracer is refused, the run is
-pub all-refused : (g : Shape) (wind : List ℤ) (first : List ℕ) (k : ℕ) (y z new : List ℕ) {s n start at' : ℕ} {mid field' old : List ℕ} → TracersAdded g wind s first field' start old mid at' → s < n
-    → (r : Result ℕ Refusal) (q : Refusal) → IsErrAnd r (λ y. y ≡ q) → stepped g wind s field' ≡ refused (number q) → AddedOrRefused k 0 (up_to g wind n first) y z new r
+pub all-refused : (g : Shape) (wind : List ℤ) (first : List ℕ) (k : ℕ) (y : List ℕ) (z new : Text) {s n : ℕ} {field' : List ℕ} {old mid : Text} → TracersAdded g wind s first field' old mid → s < n
+    → (r : Result (Unit {0}) Refusal) (q : Refusal) → IsErrAnd r (λ y. y ≡ q) → stepped g wind s field' ≡ refused (number q) → AddedOrRefused k (up_to g wind n first) y z new r
 all-refused g wind first k y z new {s = s} {n = n} p h r q i e =
-    passed k 0 (up_to g wind n first) y z new r q i (stays-refused g wind first (number q) (s + 1) n (tracers-refused g wind first p (number q) e) (omega arith))
+    passed k (up_to g wind n first) y z new r q i (stays-refused g wind first (number q) (s + 1) n (tracers-refused g wind first p (number q) e) (omega arith))
 
 -- the whole text
-pub all-added : (g : Shape) (wind : List ℤ) (n : ℕ) (first now' : List ℕ) (start : ℕ) (old mid new : List ℕ) (end : ℕ) → Added 68 0 (grid_line g) old mid start → TracersAdded g wind n first now' start mid new end
-    → LinesAdded (68 + n * tracer_room g) 0 (up_to g wind n first) now' old new end
-all-added g wind n first now' start old mid new end a p = record { text = grid_line g ++ p.text; is = p.is; added = then a p.added }
+pub all-added : (g : Shape) (wind : List ℤ) (n : ℕ) (first now' : List ℕ) {old mid new : Text} → Adds 68 (grid_line g) old mid → TracersAdded g wind n first now' mid new
+    → LinesAdded (68 + n * tracer_room g) (up_to g wind n first) now' old new
+all-added g wind n first now' a p = record { text = grid_line g ++ p.text; is = p.is; added = then a p.added }

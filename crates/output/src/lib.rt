@@ -6,82 +6,81 @@ ghost use Rattle.io.specs.Counts.{IsPrefixLen};
 ghost use Rattle.whole.specs.Table.{overwrite};
 ghost use Rattle.rules.specs.Field.{faces, Admitted};
 ghost use Rattle.rules.specs.Program.{report_lent, work_lent, stepped, up_to, printed, steps, output};
+ghost use Rattle.text.specs.Adds.{HasRoom};
 ghost use Rattle.output.specs.AddedLines.{tracer_room, AddedOrRefused, LinesOrRefused};
 
 use program_file::{ELEMENTS, SMOKES};
 use rules::element::NUMBERS;
 use rules::{Refusal, Shape};
+use text::Text;
 
 // No text is longer.
 const TEXT: usize = 200_000;
 
-// Steps one tracer, prints its lines from place `at` on, and answers where they end.
+// Steps one tracer, and adds its lines to the text.
 fn tracer(
-    out: &mut [u8],
+    text: &mut Text,
     field: &mut [u32],
     wind: &[i16],
     report: &mut [i32],
     work: &mut [i64],
     shape: Shape,
     tracer: usize,
-    at: usize,
-) -> Result<usize, Refusal>
+) -> Result<(), Refusal>
     requires admitted { Admitted shape }
     requires report_len { length report.old ≡ report_lent }
     requires work_len { length work.old ≡ work_lent }
     requires shape_bound { faces shape ≤ report_lent }
-    requires shape_in_bounds { at + tracer_room shape ≤ length out.old }
-    ensures { AddedOrRefused (tracer_room shape) at (stepped shape wind.now tracer field.old) field.new out.old out.new result }
+    requires room { HasRoom (tracer_room shape) text.old }
+    ensures { AddedOrRefused (tracer_room shape) (stepped shape wind.now tracer field.old) field.new text.old text.new result }
 {
     step::step(field, wind, report, work, shape, tracer)?;
     let total = field::total(field, shape, tracer)?;
-    Ok(text_lines::tracer_lines(
-        out, at, shape, tracer, report, total,
-    ))
+    text_lines::tracer_lines(text, shape, tracer, report, total);
+    Ok(())
 }
 
 // The line of the grid, and every tracer's lines after its step.
 fn tracers(
-    out: &mut [u8],
+    text: &mut Text,
     field: &mut [u32],
     wind: &[i16],
     report: &mut [i32],
     work: &mut [i64],
     shape: Shape,
-) -> Result<usize, Refusal>
+) -> Result<(), Refusal>
     requires admitted { Admitted shape }
     requires report_len { length report.old ≡ report_lent }
     requires work_len { length work.old ≡ work_lent }
     requires shape_bound { faces shape ≤ report_lent }
-    requires shape_in_bounds { 68 + shape.tracers * tracer_room shape ≤ length out.old }
-    ensures { AddedOrRefused (68 + shape.tracers * tracer_room shape) 0 (up_to shape wind.now shape.tracers field.old) field.new out.old out.new result }
+    requires room { HasRoom (68 + shape.tracers * tracer_room shape) text.old }
+    ensures { AddedOrRefused (68 + shape.tracers * tracer_room shape) (up_to shape wind.now shape.tracers field.old) field.new text.old text.new result }
 {
-    let count = shape.tracers;
-    let mut at = text_lines::grid_line(out, 0, shape);
-    for s in 0..count {
-        at = tracer(out, field, wind, report, work, shape, s, at)?;
+    text_lines::grid_line(text, shape);
+    for s in 0..shape.tracers {
+        tracer(text, field, wind, report, work, shape, s)?;
     }
-    Ok(at)
+    Ok(())
 }
 
-// Reads the file, steps its tracers and answers where their lines end. All buffers but the file are `print`'s own: only the text in them is
-// used after this.
+// Reads the file, and adds the lines of its tracers to the text. All buffers but the file are `print`'s own: only the text is used after
+// this.
 fn lines(
     file: &[u8],
-    out: &mut [u8],
+    text: &mut Text,
     field: &mut [u32],
     wind: &mut [i16],
     report: &mut [i32],
     work: &mut [i64],
-) -> Result<usize, Refusal>
+) -> Result<(), Refusal>
     requires wind_len { length wind.old ≡ report_lent }
     requires report_len { length report.old ≡ report_lent }
     requires work_len { length work.old ≡ work_lent }
-    requires out_len { length out.old ≡ 200000 }
-    ensures { LinesOrRefused (printed steps file.now field.old wind.old) out.new result }
+    requires room { HasRoom 200000 text.old }
+    ensures { LinesOrRefused (printed steps file.now field.old wind.old) text.old text.new result }
 {
     let shape = program_file::read(file, field, wind)?;
-    tracers(out, field, wind, report, work, shape)
+    tracers(text, field, wind, report, work, shape)
 }
 
 // The whole text at the front of the buffer: the lines, or the refusal alone.
@@ -100,8 +99,9 @@ fn fill(
     ensures upper_bound { result ≤ 200000 }
     ensures out_after { take result out.new ≡ printed steps file.now field.old wind.old }
 {
-    match lines(file, out, field, wind, report, work) {
-        Ok(end) => end,
+    let mut text = Text::new(out);
+    match lines(file, &mut text, field, wind, report, work) {
+        Ok(()) => text.len(),
         Err(r) => program_file::refusal(out, r),
     }
 }
@@ -127,5 +127,6 @@ pub fn print(file: &[u8], out: &mut [u8]) -> usize
         &mut report,
         &mut work,
     );
-    text::put(out, 0, &buffer[..n])
+    out[..n].copy_from_slice(&buffer[..n]);
+    n
 }

@@ -1,14 +1,19 @@
 -- The whole text is the lines, or the refusal alone.
-use mathlib.Core.Path.{◌≡◌, ap, subst, ◌∙◌}
+use Rattle.std.proofs.Common.{rules}
+use mathlib.Core.Path.{◌∙◌}
 use native.Mathlib.Omega.{arith}
 use Rattle.text.proofs.AddedLaws.{front-added, end-le}
+use Rattle.text.proofs.AddsLaws.{given_back}
 use Rattle.output.proofs.TextLaws.{lines_at, refusal_at}
 use Rattle.output.proofs.fill.Goals as goal
 
 pub returns-in-Ok : goal.returns-in-Ok
-returns-in-Ok c = let t = lines_at _ c.in-Ok.is c.lines.ensures in record { upper_bound = t.1; out_after = t.0 }
+returns-in-Ok c =
+    let n = c.new-text.ensures in
+    let t = lines_at _ _ c.in-Ok.is c.lines.ensures in
+    record { upper_bound = omega (arith, t.added.ends, t.added.few, n.empty, c.len.ensures); out_after = front-added (given_back t n.bytes n.empty (search (rules, t.same_buffer, n.same_buffer)) c.len.ensures) }
 
 pub returns-in-Err : goal.returns-in-Err
 returns-in-Err c =
     let a = c.refusal.ensures in
-    record { upper_bound = omega (arith, end-le a, c.out-1.given, c.requires.out_len); out_after = front-added a ∙ refusal_at _ c.in-Err.is c.lines.ensures }
+    record { upper_bound = omega (arith, end-le a, c.requires.out_len); out_after = front-added a ∙ refusal_at _ _ c.in-Err.is c.lines.ensures }

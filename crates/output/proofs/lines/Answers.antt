@@ -1,5 +1,5 @@
 -- The lines: what the reading of the file refuses is passed on, and else it is what the tracers' lines are.
-use mathlib.Core.Path.{◌≡◌, sym, ap, ◌∙◌}
+use mathlib.Core.Path.{◌≡◌, sym}
 use Prim.Native.Nat.{◌≤◌}
 use native.Mathlib.Omega.{arith}
 use Rattle.rules.specs.Answers.{accepted}
@@ -14,7 +14,7 @@ use Rattle.output.proofs.lines.Goals.{In_ok-shape}
 
 pub returns-in_err-shape : goal.returns-in_err-shape
 returns-in_err-shape c =
-    passed-line _ c.from_residual.result _ c.from_residual.ensures.1 (refused-printed c.args.file.now c.args.field.now c.args.wind.now steps _ (sym c.in_err-shape.ensures.0))
+    passed-line _ _ c.from_residual.result _ c.from_residual.ensures.1 (refused-printed c.args.file.now c.args.field.now c.args.wind.now steps _ (sym c.in_err-shape.ensures.0))
 
 -- the file was read, and its shape has no more than the lent winds
 found : (c : In_ok-shape) → let a = c.args in file_reply a.file.now a.field.now a.wind.now ≡ accepted c.in_ok-shape.shape
@@ -32,7 +32,7 @@ tracers-requires c =
     let g = c.in_ok-shape.shape in
     let o = (goal.at.tracers-requires c).In_ok-shape in
     let s = read-shown quadratic g a.file.now a.field.now a.wind.now (file-read a.file.now a.field.now a.wind.now g (found o)) in
-    record { admitted = ranges g s.ranges; report_len = c.requires.report_len; work_len = c.requires.work_len; shape_bound = few o; shape_in_bounds = omega (arith, text-fits g s.ranges (few o), c.requires.out_len) }
+    record { admitted = ranges g s.ranges; report_len = c.requires.report_len; work_len = c.requires.work_len; shape_bound = few o; room = omega (arith, text-fits g s.ranges (few o), c.requires.room) }
 
 pub returns : goal.returns
 returns c =
@@ -40,4 +40,4 @@ returns c =
     let g = c.in_ok-shape.shape in
     let o = (goal.at.returns c).In_ok-shape in
     let s = read-shown quadratic g a.file.now a.field.now a.wind.now (file-read a.file.now a.field.now a.wind.now g (found o)) in
-    lines_of g _ _ _ _ _ (text-fits g s.ranges (few o)) c.requires.out_len (text-printed a.file.now a.field.now a.wind.now steps g _ _ (found o) c.read.ensures.1.0 c.read.ensures.1.1) c.tracers.result c.tracers.ensures
+    lines_of g _ _ _ _ _ (text-fits g s.ranges (few o)) (text-printed a.file.now a.field.now a.wind.now steps g _ _ (found o) c.read.ensures.1.0 c.read.ensures.1.1) c.tracers.result c.tracers.ensures

@@ -1,20 +1,20 @@
 -- One tracer: a refused step or reading is the definition's refusal, and else its lines are added, printed from the report buffer.
-use mathlib.Core.Path.{sym, ap, ◌∙◌}
+use mathlib.Core.Path.{sym}
 use native.Mathlib.Omega.{arith}
-use Rattle.text.proofs.AddedLaws.{same_bytes}
+use Rattle.text.proofs.AddsLaws.{same_bytes}
 use Rattle.output.proofs.Laws.{passed, step-refused, total-refused, lines-accepted, lines_are}
 use Rattle.output.proofs.tracer.Goals as goal
 
 pub tracer_lines-requires : goal.tracer_lines-requires
-tracer_lines-requires c = record { admitted = c.requires.admitted; shape_in_bounds = omega (arith, c.requires, c.report-1.given); nx_in_bounds = c.requires.shape_in_bounds }
+tracer_lines-requires c = record { admitted = c.requires.admitted; shape_in_bounds = omega (arith, c.requires, c.step.auto.report); room = c.requires.room }
 
 pub returns-in_err-step : goal.returns-in_err-step
 returns-in_err-step c =
-    passed _ _ _ _ _ _ c.from_residual.result _ c.from_residual.ensures.1 (step-refused c.args.shape c.args.wind.now c.args.tracer c.args.field.now _ _ c.requires.report_len c.requires.work_len _ (sym c.in_err-step.ensures.0))
+    passed _ _ _ _ _ c.from_residual.result _ c.from_residual.ensures.1 (step-refused c.args.shape c.args.wind.now c.args.tracer c.args.field.now _ _ c.requires.report_len c.requires.work_len _ (sym c.in_err-step.ensures.0))
 
 pub returns-in_err-total : goal.returns-in_err-total
 returns-in_err-total c =
-    passed _ _ _ _ _ _ c.from_residual-in_err-total.result _ c.from_residual-in_err-total.ensures.1
+    passed _ _ _ _ _ c.from_residual-in_err-total.result _ c.from_residual-in_err-total.ensures.1
     (total-refused c.args.shape c.args.wind.now c.args.tracer c.args.field.now _ _ c.requires.report_len c.requires.work_len (sym c.in_ok-step.ensures.0) _ _ c.step.ensures.1.0 (sym c.in_err-total.ensures))
 
 pub returns : goal.returns
