@@ -11,8 +11,8 @@ ghost use Rattle.text.specs.Added.{Added};
 ghost use Rattle.output_maps.specs.SoundField.{SoundField};
 
 use program_file::{ELEMENTS, SMOKES};
-use rules::element::NUMBERS;
 use rules::Shape;
+use rules::element::NUMBERS;
 
 // One tracer's page from place `at` on. No map of a sound field is refused, so that the second case is not met.
 fn page(out: &mut [u8], at: usize, field: &[u32], shape: Shape, tracer: usize) -> usize
