@@ -1,17 +1,15 @@
 -- The pages of a field that was read: no map of it is refused, each is added behind the one before, and there is room for all.
 use mathlib.Core.Path.{◌≡◌, sym, subst, ◌∙◌}
 use mathlib.Core.Bool.{Bool, true, false}
-use mathlib.Core.List.{List, ◌++◌}
-use Prim.Native.Nat.{ℕ, ◌+◌, ◌*◌, ◌-◌, ◌≤◌, ◌<◌}
+use mathlib.Core.List.{List}
+use Prim.Native.Nat.{ℕ, ◌+◌, ◌*◌, ◌≤◌, ◌<◌}
 use native.Mathlib.Nat.{mul-add, mul_assoc, mul-le-mul, mul-le-mul_right}
 use native.Mathlib.Decide.{dec_lt}
 use native.Mathlib.Omega.{arith}
 use lib.Dec.{T, leb, ltb, le→leb, lt→ltb}
 use lib.IntN.{ℤ}
-use lib.ListN.{length, take, drop, length-drop}
-use lib.Seq.{length-take-le}
+use lib.ListN.{length}
 use Rattle.whole.proofs.SumLaws.{all-at}
-use Rattle.whole.proofs.ListParts.{part-written}
 use Rattle.rules.specs.declared.Shape.{Shape}
 use Rattle.rules.specs.Answers.{accepted, refused}
 use Rattle.rules.specs.Field.{quadratic, admitted, elements, faces, field_length, part, sound}
@@ -50,23 +48,16 @@ module _ (g : Shape) (field : List ℕ) (h : SoundField g field) (s : ℕ) (ther
   accepts page room = passed-accepts (map_checks quadratic g s field page) (length text)
       (h.ranges, (and_yes (leb (field_length quadratic g) (length field)) (leb (page_length g) (length page)) (le→leb _ _ h.room) (le→leb _ _ room), (sound-if g (part quadratic g s field) (ltb s g.tracers) sound-part, (lt→ltb _ _ there, tt))))
 
-  module _ (out : List ℕ) (at k : ℕ) (rest : k ≡ length out - at) (room : at + page_length g ≤ length out) where
-    -- what is lent to the map: the buffer from place `at` on
-    abbrev lent : List ℕ
-    lent = take k (drop at out)
+  module _ (out : List ℕ) (room : page_length g ≤ length out) where
+    pub never-refused : {A : Type 0} (n : ℕ) → refused n ≡ map_reading quadratic g s field out → A
+    never-refused n e = let q : refused n ≡ accepted (length text) = e ∙ accepts out room in let z : ◌≡◌ {A = ℕ} 0 1 = cc in absurd (omega arith)
 
-    lent-room : page_length g ≤ length lent
-    lent-room = omega (arith, length-drop at out, length-take-le k (drop at out) (omega (arith, length-drop at out)))
+    pub number_is : (n : ℕ) → accepted n ≡ map_reading quadratic g s field out → n ≡ page_length g
+    number_is n e = let q : accepted n ≡ accepted (length text) = e ∙ accepts out room in let z : n ≡ length text = cc in z ∙ text-long
 
-    pub never-refused : {A : Type 0} (n : ℕ) → refused n ≡ map_reading quadratic g s field lent → A
-    never-refused n e = let q : refused n ≡ accepted (length text) = e ∙ accepts lent lent-room in let z : ◌≡◌ {A = ℕ} 0 1 = cc in absurd (omega arith)
-
-    pub number_is : (n : ℕ) → accepted n ≡ map_reading quadratic g s field lent → n ≡ page_length g
-    number_is n e = let q : accepted n ≡ accepted (length text) = e ∙ accepts lent lent-room in let z : n ≡ length text = cc in z ∙ text-long
-
-    pub page-added : (n : ℕ) (y : List ℕ) → accepted n ≡ map_reading quadratic g s field lent → y ≡ map_page quadratic g s field lent → Added (page_length g) at text out (take at out ++ (y ++ drop k (drop at out))) (at + n)
+    pub page-added : (n : ℕ) (y : List ℕ) → accepted n ≡ map_reading quadratic g s field out → y ≡ map_page quadratic g s field out → Added (page_length g) 0 text out y n
     page-added n y e w = record {
-      same = part-written at k text y out (w ∙ sym (page-written g s field lent _ (accepts lent lent-room))) (omega (arith, text-long)) (omega arith);
+      same = w ∙ sym (page-written g s field out _ (accepts out room));
       ends = omega (arith, number_is n e, text-long);
       few = omega (arith, text-long);
       fits = omega (arith, text-long);

@@ -14,16 +14,16 @@ use program_file::{ELEMENTS, SMOKES};
 use rules::Shape;
 use rules::element::NUMBERS;
 
-// One tracer's page from place `at` on. No map of a sound field is refused, so that the second case is not met.
-fn page(out: &mut [u8], at: usize, field: &[u32], shape: Shape, tracer: usize) -> usize
+// One tracer's page at the front of the buffer, and its bytes. No map of a sound field is refused, so that the second case is not met.
+fn page(out: &mut [u8], field: &[u32], shape: Shape, tracer: usize) -> usize
     requires sound_field { SoundField shape field.now }
     requires tracer_lt_tracers { tracer < shape.tracers }
-    requires shape_in_bounds { at + page_length shape ≤ length out.old }
-    ensures { Added (page_length shape) at (page_text quadratic shape (part quadratic shape tracer field.now)) out.old out.new result }
+    requires shape_in_bounds { page_length shape ≤ length out.old }
+    ensures { Added (page_length shape) 0 (page_text quadratic shape (part quadratic shape tracer field.now)) out.old out.new result }
 {
-    match map::map(&mut out[at..], field, shape, tracer) {
-        Ok(n) => at + n as usize,
-        Err(_) => at,
+    match map::map(out, field, shape, tracer) {
+        Ok(n) => n as usize,
+        Err(_) => 0,
     }
 }
 
@@ -33,10 +33,9 @@ fn pages(out: &mut [u8], field: &[u32], shape: Shape) -> usize
     requires shape_in_bounds { shape.tracers * page_length shape ≤ length out.old }
     ensures { Added (shape.tracers * page_length shape) 0 (blocks shape.tracers (λ s. page_text quadratic shape (part quadratic shape s field.now))) out.old out.new result }
 {
-    let count = shape.tracers;
     let mut end = 0;
-    for s in 0..count {
-        end = page(out, end, field, shape, s);
+    for s in 0..shape.tracers {
+        end += page(&mut out[end..], field, shape, s);
     }
     end
 }

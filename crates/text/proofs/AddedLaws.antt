@@ -1,16 +1,16 @@
 -- Bytes added to a buffer, one after the other.
 use mathlib.Core.Path.{◌≡◌, sym, ap, subst, ◌∙◌}
 use mathlib.Core.List.{List, [], ◌++◌}
-use Prim.Native.Nat.{ℕ, ◌+◌, ◌*◌, ◌≤◌, ◌<◌}
+use Prim.Native.Nat.{ℕ, ◌+◌, ◌*◌, ◌-◌, ◌≤◌, ◌<◌}
 use native.Mathlib.Nat.{le_trans, suc-mul}
 use native.Mathlib.Numerals.{add-one}
 use native.Mathlib.Omega.{arith}
-use lib.ListN.{length, take, drop, length-append, take-append-drop}
-use lib.Seq.{take_at}
+use lib.ListN.{length, take, drop, length-append, length-drop, take-append-drop}
+use lib.Seq.{take_at, length-take-le}
 use Rattle.whole.specs.Table.{blocks, overwrite}
 use Rattle.whole.proofs.TableLaws.{blocks_more}
 use Rattle.whole.proofs.OverwriteLaws.{length-overwrite, part_room, front-is}
-use Rattle.whole.proofs.ListParts.{overwrite-next}
+use Rattle.whole.proofs.ListParts.{overwrite-next, part-written}
 use Rattle.text.specs.Added.{Added}
 
 module _ {n at e : ℕ} {a old mid : List ℕ} (p : Added n at a old mid e) where
@@ -38,6 +38,12 @@ module _ {n at e : ℕ} {a old mid : List ℕ} (p : Added n at a old mid e) wher
 -- the same bytes, written otherwise
 pub same_bytes : {n at e : ℕ} {a b old new : List ℕ} → a ≡ b → Added n at a old new e → Added n at b old new e
 same_bytes {n} {at} {e} {old = old} {new = new} h p = subst (λ (l : List ℕ). Added n at l old new e) h p
+
+-- bytes added at the front of a part that was lent, from a place on to the buffer's end
+pub behind : {n at k e : ℕ} {a out part : List ℕ} → k ≡ length out - at → at ≤ length out → Added n 0 a (take k (drop at out)) part e → Added n at a out (take at out ++ (part ++ drop k (drop at out))) (at + e)
+behind {n} {at} {k} {e} {a} {out} {part} h room p =
+    let size : length (take k (drop at out)) ≡ k = length-take-le k (drop at out) (omega (arith, length-drop at out)) in
+    record { same = part-written at k a part out p.same (omega (arith, p.fits)) (omega arith); ends = omega (arith, p.ends); few = p.few; fits = omega (arith, p.fits) }
 
 -- ---- a loop that adds a block of at most w bytes at every turn
 overwrite-none : (at : ℕ) (xs : List ℕ) → overwrite at [] xs ≡ xs
