@@ -1,5 +1,6 @@
 // The lines that the program prints, each added to a text.
-// Every function here is a leaf: the text has room for the longest line, and the shape is admitted where it is asked for.
+// Every function here is a leaf: the text has room for the longest line, and the shape is admitted where it is asked for. A place or a count
+// becomes a u64 by `as`, since std has no `From` for it.
 // `grid_line`, `refused_line` and `tracer_lines` are what the program calls.
 #![tactic(auto)]
 
@@ -75,42 +76,49 @@ fn total_line(text: &mut Text, tracer: usize, total: u64)
     text.newline();
 }
 
-// Where the first face of row j that looks one way stands in the report.
-fn first_face(shape: Shape, way: Way, j: usize) -> usize
-    requires admitted { Admitted shape }
-    requires j_lt_ny { j < shape.ny }
-    ensures { result ≡ face_index shape way 0 j }
-{
-    let e = j * shape.nx;
-    match way {
-        Way::East => e,
-        Way::North => shape.nx * shape.ny + e,
-    }
+// The report of a tracer's step, in which every face of the grid has a place.
+#[derive(Clone, Copy)]
+pub(crate) struct TracerReport<'a> {
+    report: &'a [i32],
+    shape: Shape,
+    tracer: usize,
+    ghost admitted: { Admitted shape },
+    ghost complete: { faces shape ≤ length report.now },
 }
 
-// The faces of row j that look one way.
-fn face_row(text: &mut Text, shape: Shape, tracer: usize, way: Way, report: &[i32], j: usize)
-    requires admitted { Admitted shape }
-    requires j_lt_ny { j < shape.ny }
-    requires shape_in_bounds { faces shape ≤ length report.now }
-    requires room { HasRoom (shape.nx * 96) text.old }
-    ensures { Adds (shape.nx * 96) (face_row shape tracer way report.now j) text.old text.new }
-{
-    let first = first_face(shape, way, j);
-    for (i, &flux) in report[first..first + shape.nx].iter().enumerate() {
-        face_line(text, tracer, way, i, j, flux);
+impl TracerReport<'_> {
+    // Where the first face of row j that looks one way stands in the report.
+    fn first_face(&self, way: Way, j: usize) -> usize
+        requires { j < self.now.shape.ny }
+        ensures { result ≡ face_index self.now.shape way 0 j }
+    {
+        let e = j * self.shape.nx;
+        match way {
+            Way::East => e,
+            Way::North => self.shape.nx * self.shape.ny + e,
+        }
     }
-}
 
-// All faces that look one way.
-fn face_lines(text: &mut Text, shape: Shape, tracer: usize, way: Way, report: &[i32])
-    requires admitted { Admitted shape }
-    requires shape_in_bounds { faces shape ≤ length report.now }
-    requires room { HasRoom (shape.ny * (shape.nx * 96)) text.old }
-    ensures { Adds (shape.ny * (shape.nx * 96)) (face_lines shape tracer way report.now) text.old text.new }
-{
-    for j in 0..shape.ny {
-        face_row(text, shape, tracer, way, report, j);
+    // The faces of row j that look one way.
+    fn face_row(&self, text: &mut Text, way: Way, j: usize)
+        requires j_lt_ny { j < self.now.shape.ny }
+        requires room { HasRoom (self.now.shape.nx * 96) text.old }
+        ensures { Adds (self.now.shape.nx * 96) (face_row self.now.shape self.now.tracer way self.now.report.now j) text.old text.new }
+    {
+        let first = self.first_face(way, j);
+        for (i, &flux) in self.report[first..first + self.shape.nx].iter().enumerate() {
+            face_line(text, self.tracer, way, i, j, flux);
+        }
+    }
+
+    // All faces that look one way.
+    fn face_lines(&self, text: &mut Text, way: Way)
+        requires { HasRoom (self.now.shape.ny * (self.now.shape.nx * 96)) text.old }
+        ensures { Adds (self.now.shape.ny * (self.now.shape.nx * 96)) (face_lines self.now.shape self.now.tracer way self.now.report.now) text.old text.new }
+    {
+        for j in 0..self.shape.ny {
+            self.face_row(text, way, j);
+        }
     }
 }
 
@@ -121,7 +129,12 @@ pub fn tracer_lines(text: &mut Text, shape: Shape, tracer: usize, report: &[i32]
     requires room { HasRoom (2 * (shape.ny * (shape.nx * 96)) + 48) text.old }
     ensures { Adds (2 * (shape.ny * (shape.nx * 96)) + 48) (tracer_lines shape tracer report.now total) text.old text.new }
 {
-    face_lines(text, shape, tracer, Way::East, report);
-    face_lines(text, shape, tracer, Way::North, report);
+    let faces = TracerReport {
+        report,
+        shape,
+        tracer,
+    };
+    faces.face_lines(text, Way::East);
+    faces.face_lines(text, Way::North);
     total_line(text, tracer, total);
 }
