@@ -1,2 +1,2 @@
--- Laws that the proofs of the numbers cite.
+-- The bytes of std's conversions, by the definitions of the file's format.
 pub mod ByteLaws

@@ -2,73 +2,43 @@
 // buffer are long enough.
 #![tactic(auto)]
 
-ghost use Rattle.std.specs.Prelude.{◌≡◌, ◌*◌, ◌≤◌, length, get_or};
+ghost use Rattle.std.specs.Prelude.{◌≡◌, ◌*◌, ◌/◌, ◌≤◌, length, get_or};
 ghost use Rattle.whole.specs.Sum.{all};
-ghost use Rattle.whole.specs.Table.{blocks, overwrite};
+ghost use Rattle.whole.specs.Table.{table, blocks, overwrite};
 ghost use Rattle.rules.specs.Field.{wind_in_range};
-ghost use Rattle.rules.specs.Calls.{wind_at};
-ghost use Rattle.rules.specs.Bytes.{number16, bytes32, bytes16};
-ghost use Rattle.file_sections.specs.Numbers.{numbers_of, winds_of};
+ghost use Rattle.rules.specs.Bytes.{number16};
 
-use file_numbers::{number16, number32, put16, put32};
+use field_layout::wind_in_range;
+use file_numbers::Stored;
 
 pub mod search; // search.rt: the search of a tracer's section
 
-// Reads the n numbers of a tracer's section, or of a part of it.
-pub fn read_numbers(section: &[u8], out: &mut [u32], n: usize)
-    requires n_in_bounds { 4 * n ≤ length section.now }
-    requires n_in_bounds_2 { n ≤ length out.old }
-    ensures { out.new ≡ overwrite 0 (numbers_of section.now n) out.old }
+// Reads a number of the section for each entry of `out`. Here and below a number stands by its place: of entries that a zip with
+// `iter_mut`, or `chunks_exact_mut`, has lent, a proof knows only how many they are.
+pub fn read_all<T: Stored>(section: &[u8], out: &mut [T])
+    requires { T.SIZE * length out.old ≤ length section.now }
+    ensures { out.new ≡ table (length out.old) (λ i. T.number section.now (T.SIZE * i)) }
 {
-    for i in 0..n {
-        out[i] = number32(section, 4 * i);
+    for (i, x) in out.iter_mut().enumerate() {
+        *x = T::read(&section[i * T::SIZE..]);
     }
 }
 
-// Reads the n winds of the wind section.
-pub fn read_winds(section: &[u8], out: &mut [i16], n: usize)
-    requires n_in_bounds { 2 * n ≤ length section.now }
-    requires n_in_bounds_2 { n ≤ length out.old }
-    ensures { out.new ≡ overwrite 0 (winds_of section.now n) out.old }
+// Writes the numbers one after the other. No entry past the last is read, so d is any number.
+pub fn write_all<T: Stored>(section: &mut [u8], numbers: &[T])
+    requires { T.SIZE * length numbers.now ≤ length section.old }
+    ensures { (d : T) → section.new ≡ overwrite 0 (blocks (length numbers.now) (λ i. T.bytes (get_or numbers.now i d))) section.old }
 {
-    for i in 0..n {
-        let wind = number16(section, 2 * i);
-        out[i] = wind;
+    for (i, x) in numbers.iter().enumerate() {
+        x.write(&mut section[i * T::SIZE..]);
     }
 }
 
-// Writes the first n numbers.
-pub fn write_numbers(section: &mut [u8], numbers: &[u32], n: usize)
-    requires n_in_bounds { 4 * n ≤ length section.old }
-    requires n_in_bounds_2 { n ≤ length numbers.now }
-    ensures { section.new ≡ overwrite 0 (blocks n (λ i. bytes32 (get_or numbers.now i 0))) section.old }
+// Whether each wind of the wind section is in its range.
+pub fn winds_sound(section: &[u8]) -> bool
+    ensures { result ≡ all (length section.now / 2) (λ f. wind_in_range (number16 section.now (2 * f))) }
 {
-    for i in 0..n {
-        put32(section, 4 * i, numbers[i]);
-    }
-}
-
-// Writes the first n winds.
-pub fn write_winds(section: &mut [u8], winds: &[i16], n: usize)
-    requires n_in_bounds { 2 * n ≤ length section.old }
-    requires n_in_bounds_2 { n ≤ length winds.now }
-    ensures { section.new ≡ overwrite 0 (blocks n (λ i. bytes16 (wind_at winds.now i))) section.old }
-{
-    for i in 0..n {
-        let wind = winds[i];
-        put16(section, 2 * i, wind);
-    }
-}
-
-// Whether each of the n winds of the wind section is in its range.
-pub fn winds_sound(section: &[u8], n: usize) -> bool
-    requires { 2 * n ≤ length section.now }
-    ensures { result ≡ all n (λ f. wind_in_range (number16 section.now (2 * f))) }
-{
-    for f in 0..n {
-        if !field_layout::wind_in_range(number16(section, 2 * f)) {
-            return false;
-        }
-    }
-    true
+    section
+        .chunks_exact(i16::SIZE)
+        .all(|bytes| wind_in_range(i16::read(bytes)))
 }

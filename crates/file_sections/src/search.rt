@@ -5,6 +5,7 @@ ghost use Rattle.file_sections.specs.Numbers.{numbers_of};
 
 use field_elements::element::number_weight;
 use field_search::breaks;
+use file_numbers::Stored;
 use rules::Shape;
 use rules::element::NUMBERS;
 
@@ -23,7 +24,7 @@ pub fn tracer_sound(section: &[u8], shape: Shape) -> bool
     'rows: for j in 0..ny {
         'elements: for i in 0..nx {
             'numbers: for v in 0..NUMBERS {
-                let x = file_numbers::number32(section, 4 * (start + v)) as u64;
+                let x = u64::from(u32::read(&section[4 * (start + v)..]));
                 sum += number_weight(v) * x;
                 if breaks(v, x, sum) {
                     sound = false;

@@ -1,0 +1,2 @@
+-- What a type of stored numbers keeps.
+pub mod Laws
