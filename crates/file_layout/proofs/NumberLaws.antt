@@ -9,7 +9,7 @@ use lib.Arith.{le→nltb}
 use lib.IntN.{ℤ, pos, negsuc, nat_abs}
 use lib.ListN.{length, get_or}
 use Rattle.whole.proofs.Cases.{cond_ind, cond_yes, cond_no}
-use Rattle.file_numbers.proofs.ByteLaws.{length-bytes32, length-bytes16}
+use Rattle.file_numbers.specs.Laws.{laws32, laws16}
 use Rattle.rules.specs.Bytes.{byte_at, bytes32, number32, bits16, bytes16, number16}
 
 -- every number of the file is a byte
@@ -105,7 +105,7 @@ pub record Code {A : Type 0} (width : ℕ) (bytes : A → List ℕ) (number : Li
   pub written : (file : List ℕ) (i : ℕ) → Bytes file → Has i (bytes (number file i)) file
 
 pub code32 : Code 4 bytes32 number32 (λ n. n < 4294967296)
-code32 = record { size = length-bytes32; read = number-of-bytes32; written = bytes-of-number32 }
+code32 = record { size = laws32.width; read = number-of-bytes32; written = bytes-of-number32 }
 
 pub code16 : Code 2 bytes16 number16 (λ z. nat_abs z < 32768)
-code16 = record { size = length-bytes16; read = number-of-bytes16; written = bytes-of-number16 }
+code16 = record { size = laws16.width; read = number-of-bytes16; written = bytes-of-number16 }

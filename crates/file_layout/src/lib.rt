@@ -45,10 +45,5 @@ pub fn is_mark(file: &[u8], at: usize) -> bool
     requires { at + 4 ≤ length file.now }
     ensures { result ≡ all 4 (λ i. eqb (byte_at file.now (at + i)) (get_or mark i 0)) }
 {
-    for i in 0..4 {
-        if file[at + i] != MARK[i] {
-            return false;
-        }
-    }
-    true
+    file[at..].starts_with(&MARK)
 }
