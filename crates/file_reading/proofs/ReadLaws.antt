@@ -8,12 +8,13 @@ use native.Mathlib.Omega.{arith}
 use borrow.Author.Tests.{eq-eqb, ne_eqb}
 use lib.Dec.{eqb}
 use lib.ListN.{length, take, drop}
+use lib.Seq.{length-take-le}
 use Rattle.whole.specs.Sum.{all}
 use Rattle.whole.specs.Table.{table, overwrite}
-use Rattle.whole.proofs.TableLaws.{length-table, get_d-table, table-cong}
+use Rattle.whole.proofs.TableLaws.{get_d-table, table-cong}
 use Rattle.whole.proofs.SumLaws.{all-cong}
-use Rattle.whole.proofs.OverwriteLaws.{part_at, part-size, part_room}
-use Rattle.whole.proofs.ListParts.{table-part, fill-part, overwritten}
+use Rattle.whole.proofs.OverwriteLaws.{part_at, part-size, part_room, filled-front}
+use Rattle.whole.proofs.ListParts.{table-part, fill-part}
 use Rattle.rules.specs.declared.Shape.{Shape}
 use Rattle.rules.specs.Field.{quadratic, faces, part_length, field_length, part, wind_in_range}
 use Rattle.rules.specs.Calls.{wind_at, wind_sound}
@@ -40,6 +41,10 @@ module _ (file : List ℕ) (s k : ℕ) where
       let e' : s + (i + 2) ≡ s + i + 2 = omega arith in
       let e'' : s + (i + 3) ≡ s + i + 3 = omega arith in
       rw (byte-part i (omega arith), byte-part (i + 1) (omega arith), byte-part (i + 2) (omega arith), byte-part (i + 3) (omega arith), e, e', e'')
+
+-- ---- numbers that are read into the front of a buffer
+pub front-filled : {A : Type 0} (n : ℕ) (f : ℕ → A) (p l : List A) → n ≤ length l → p ≡ table (length (take n l)) f → p ++ drop n l ≡ overwrite 0 (table n f) l
+front-filled n f p l h e = ap (λ r. r ++ drop n l) (e ∙ ap (λ k. table k f) (length-take-le n l h)) ∙ filled-front n f l
 
 -- ---- the wind section
 module _ (g : Shape) (file : List ℕ) (start k : ℕ) (first : start ≡ 0) (long : 2 * faces g ≤ k) where
@@ -83,15 +88,15 @@ module _ (g : Shape) (file : List ℕ) where
 
   -- a turn of the reading: the section's numbers come after those that were read before
   pub tracer-read : (s start k to n m : ℕ) (l p ys : List ℕ) → start ≡ section_start quadratic g (s + 1) → k ≡ 4 * part_length quadratic g → n ≡ part_length quadratic g → to ≡ s * n → m ≡ n
-      → to + n ≤ length p → p ≡ table to field_number ++ drop to l → ys ≡ overwrite 0 (numbers_of (take k (drop start file)) n) (take m (drop to p))
+      → to + n ≤ length p → p ≡ table to field_number ++ drop to l → ys ≡ numbers_of (take k (drop start file)) (length (take m (drop to p)))
       → take to p ++ (ys ++ drop m (drop to p)) ≡ table (to + n) field_number ++ drop (to + n) l
   tracer-read s start k to n m l p ys hs hk hn ht hm room hp hy =
       let numbers = numbers_of (take k (drop start file)) in
       let there : to ≡ s * part_length quadratic g = ht ∙ ap (λ x. s * x) hn in
       let read : numbers n ≡ table n (λ i. field_number (to + i)) =
       ap numbers hn ∙ section-numbers s start k hs hk ∙ (λ j. table (sym hn j) (λ i. field_number (sym there j + i))) in
-      let size : length (take m (drop to p)) ≡ length (numbers n) = part-size n to m p hm room ∙ sym (ap length read ∙ length-table n (λ i. field_number (to + i))) in
-      fill-part to n m field_number ys l p hm hp (hy ∙ overwritten (numbers n) (take m (drop to p)) size ∙ read)
+      let size : length (take m (drop to p)) ≡ n = part-size n to m p hm room in
+      fill-part to n m field_number ys l p hm hp (hy ∙ ap numbers size ∙ read)
 
 -- ---- the test of length and offsets
 module _ (g : Shape) (file : List ℕ) where

@@ -5,6 +5,7 @@ ghost use Rattle.rules.specs.Field.{quadratic, Admitted};
 ghost use Rattle.rules.specs.FieldFile.{file_length, offsets_right, file_field, field_sound};
 ghost use Rattle.file_reading.specs.Reading.{shape_reply};
 
+use file_numbers::Stored;
 use rules::{Refusal, Shape};
 
 // Whether length and offsets of the file are what the shape gives.
@@ -17,14 +18,12 @@ fn offsets_right(file: &[u8], shape: Shape) -> bool
         return false;
     }
     let table = file_layout::table_start(shape);
-    if file_numbers::number32(file, n - 8) as usize != table {
+    if u32::read(&file[n - 8..]) as usize != table {
         return false;
     }
     let count = shape.tracers + 1;
     for i in 0..count {
-        if file_numbers::number32(file, table + 4 * i) as usize
-            != file_layout::section_start(shape, i)
-        {
+        if u32::read(&file[table + 4 * i..]) as usize != file_layout::section_start(shape, i) {
             return false;
         }
     }
@@ -65,7 +64,7 @@ pub(crate) fn check(file: &[u8], field: usize, wind: usize, shape: Shape) -> Res
     }
     let start = file_layout::section_start(shape, 0);
     let end = file_layout::section_start(shape, 1);
-    if !file_sections::winds_sound(&file[start..end], faces) {
+    if !file_sections::winds_sound(&file[start..end]) {
         return Err(Refusal::WindOutOfRange);
     }
     if !tracers_sound(file, shape) {

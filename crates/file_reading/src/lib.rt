@@ -22,7 +22,8 @@ fn read_wind(file: &[u8], wind: &mut [i16], shape: Shape)
 {
     let start = file_layout::section_start(shape, 0);
     let end = file_layout::section_start(shape, 1);
-    file_sections::read_winds(&file[start..end], wind, field_layout::faces(shape));
+    let faces = field_layout::faces(shape);
+    file_sections::read_all(&file[start..end], &mut wind[..faces]);
 }
 
 // Reads every tracer's section into its part of the field.
@@ -39,7 +40,7 @@ fn read_tracers(file: &[u8], field: &mut [u32], shape: Shape)
         let from = file_layout::section_start(shape, s + 1);
         let from_end = file_layout::section_start(shape, s + 2);
         let to_end = to + n;
-        file_sections::read_numbers(&file[from..from_end], &mut field[to..to_end], n);
+        file_sections::read_all(&file[from..from_end], &mut field[to..to_end]);
         to = to_end;
     }
 }

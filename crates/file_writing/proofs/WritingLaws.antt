@@ -6,14 +6,19 @@ use Prim.Native.Nat.{ℕ, ◌+◌, ◌*◌, ◌-◌, ◌≤◌, ◌<◌}
 use native.Mathlib.Nat.{add-sub_cancel_left, suc-mul}
 use native.Mathlib.Numerals.{add-one}
 use native.Mathlib.Omega.{arith}
-use lib.ListN.{length, get_or, set, take, drop, length-append}
+use lib.IntN.{ℤ, pos}
+use lib.ListN.{length, get_or, take, drop, length-append}
+use lib.Seq.{length-take-le, get_or-take}
+use borrow.Rule.Slice.PartMut.{put_mid}
+use Rattle.file_numbers.proofs.PlaceLaws.{write-at}
+use Rattle.rules.specs.Calls.{wind_at}
 use Rattle.whole.specs.Table.{blocks, overwrite}
-use Rattle.whole.proofs.OverwriteLaws.{part_at, length-overwrite}
+use Rattle.whole.proofs.OverwriteLaws.{part_at, part-size, length-overwrite, front-is}
 use Rattle.whole.proofs.TableLaws.{blocks_more, blocks-cong}
 use Rattle.std.specs.Prelude.{Result, Ok, Err, is_err}
 use Rattle.rules.specs.declared.Shape.{Shape}
 use Rattle.rules.specs.Field.{quadratic, part_length, field_length, part, sound, Admitted}
-use Rattle.rules.specs.Bytes.{bytes32}
+use Rattle.rules.specs.Bytes.{bytes32, bytes16}
 use Rattle.rules.specs.FieldFile.{table_start, mark, tail}
 use Rattle.rules.proofs.PartLaws.{length-part}
 use Rattle.field_search.specs.Search.{searched}
@@ -21,7 +26,6 @@ use Rattle.rules.specs.declared.Refusal.{Refusal}
 use Rattle.rules.specs.Answers.{number, answered}
 use Rattle.field_search.proofs.SearchLaws.{searched-yes, searched-no}
 use Rattle.field_layout.proofs.PlaceLaws.{tracer-room, field_is, field-le}
-use Rattle.file_numbers.proofs.ByteLaws.{stored-4}
 use Rattle.file_layout.proofs.FileLaws.{shape_bytes}
 use Rattle.file_layout.proofs.NumberLaws.{code32}
 use Rattle.whole.proofs.ListParts.{blocks-split, overwrite-next, part-written, overwritten}
@@ -60,14 +64,14 @@ module _ (field file₀ : List ℕ) (a : ℕ) where
   written-length n room = length-overwrite a (blocks n number_bytes) file₀ (omega (arith, length-section32 n (λ i. get_or field i 0)))
 
   -- tracer s of w numbers is written behind those before it; `from`, `start` are where it begins in the field and in the file
-  pub next-tracer : (s w from start m k : ℕ) (file y : List ℕ) → from ≡ s * w → start ≡ a + 4 * (s * w) → m ≡ w → k ≡ 4 * w → file ≡ overwrite a (blocks (s * w) number_bytes) file₀ → length file ≡ length file₀ → start + 4 * w ≤ length file₀
-      → y ≡ overwrite 0 (blocks w (λ i. bytes32 (get_or (take m (drop from field)) i 0))) (take k (drop start file))
+  pub next-tracer : (s w from start m k : ℕ) (file y : List ℕ) → from ≡ s * w → start ≡ a + 4 * (s * w) → m ≡ w → k ≡ 4 * w → file ≡ overwrite a (blocks (s * w) number_bytes) file₀ → length file ≡ length file₀ → start + 4 * w ≤ length file₀ → from + w ≤ length field
+      → y ≡ overwrite 0 (blocks (length (take m (drop from field))) (λ i. bytes32 (get_or (take m (drop from field)) i 0))) (take k (drop start file))
       → take start file ++ (y ++ drop k (drop start file)) ≡ overwrite a (blocks ((s + 1) * w) number_bytes) file₀
-  next-tracer s w from start m k file y ef es em ek e long room ey =
+  next-tracer s w from start m k file y ef es em ek e long room there ey =
       let q = blocks w (λ i. bytes32 (get_or (take m (drop from field)) i 0)) in
       let own : q ≡ blocks w (λ i. number_bytes (s * w + i)) = blocks-cong w (λ i. bytes32 (get_or (take m (drop from field)) i 0)) (λ i. number_bytes (s * w + i)) (λ i l. ap bytes32 (part_at w from m field i 0 em l ∙ ap (λ n. get_or field (n + i) 0) ef)) in
       let next : (s + 1) * w ≡ s * w + w = rw (add-one s) (suc-mul s w) in
-      part-written start k q y file ey (omega (arith, length-section32 w (λ i. get_or (take m (drop from field)) i 0))) (omega arith)
+      part-written start k q y file (ey ∙ ap (λ n. overwrite 0 (blocks n (λ i. bytes32 (get_or (take m (drop from field)) i 0))) (take k (drop start file))) (part-size w from m field em there)) (omega (arith, length-section32 w (λ i. get_or (take m (drop from field)) i 0))) (omega arith)
       ∙ (λ i. overwrite start (own i) (e i)) ∙ overwrite-next a start (blocks (s * w) number_bytes) (blocks w (λ i. number_bytes (s * w + i))) file₀ (omega (arith, length-section32 (s * w) (λ i. get_or field i 0))) (omega arith)
       ∙ ap (λ l. overwrite a l file₀) (sym (ap (λ n. blocks n number_bytes) next ∙ blocks-split (s * w) w number_bytes))
 
@@ -87,14 +91,19 @@ module _ (g : Shape) (out : List ℕ) (size : length out ≡ 12) where
   abbrev offset : List ℕ
   offset = bytes32 (table_start quadratic g)
 
-  pub tail_written : (n : ℕ) (out₁ out₂ : List ℕ) → n ≡ table_start quadratic g → out₁ ≡ set (set (set (set out 0 g.nx) 1 g.ny) 2 g.tracers) 3 0 → out₂ ≡ overwrite 4 (bytes32 n) out₁
-      → set (set (set (set out₂ 8 80) 9 76) 10 85) 11 77 ≡ tail quadratic g
+  pub tail_written : (n : ℕ) (o₁ o₂ y z : List ℕ) → n ≡ table_start quadratic g → o₁ ≡ shape ++ drop 4 out → y ≡ overwrite 0 (bytes32 n) (take (length o₁ - 4) (drop 4 o₁))
+      → o₂ ≡ put_mid 4 (length o₁ - 4) o₁ y → z ≡ mark → put_mid 8 (length o₂ - 8) o₂ z ≡ tail quadratic g
   unfolding tail
-  tail_written n out₁ out₂ en e₁ e₂ =
-      let a : out₁ ≡ overwrite 0 shape out = e₁ ∙ stored-4 out 0 g.nx g.ny g.tracers 0 (omega arith) in
-      let la : length (overwrite 0 shape out) ≡ 12 = length-overwrite 0 shape out (omega arith) ∙ size in
-      let b : out₂ ≡ overwrite 0 (shape ++ offset) out = e₂ ∙ (λ i. overwrite 4 (bytes32 (en i)) (a i)) ∙ overwrite-next 0 4 shape offset out refl (omega arith) in
+  tail_written n o₁ o₂ y z en e₁ ey e₂ ez =
+      let a : o₁ ≡ overwrite 0 shape out = e₁ ∙ sym (front-is shape out) in
+      let b : o₂ ≡ overwrite 0 (shape ++ offset) out = e₂ ∙ write-at 4 (bytes32 n) o₁ y ey ∙ (λ i. overwrite 4 (bytes32 (en i)) (a i)) ∙ overwrite-next 0 4 shape offset out refl (omega arith) in
       let lo : length (shape ++ offset) ≡ 8 = length-append shape offset ∙ omega (arith, code32.size (table_start quadratic g)) in
-      let lb : length out₂ ≡ 12 = ap length b ∙ length-overwrite 0 (shape ++ offset) out (omega arith) ∙ size in
-      stored-4 out₂ 8 80 76 85 77 (omega arith) ∙ ap (overwrite 8 mark) b ∙ overwrite-next 0 8 (shape ++ offset) mark out (omega arith) (omega arith)
-      ∙ overwritten ((shape ++ offset) ++ mark) out (size ∙ refl)
+      let lb : length o₂ ≡ 12 = ap length b ∙ length-overwrite 0 (shape ++ offset) out (omega arith) ∙ size in
+      let last = part-size 4 8 (length o₂ - 8) o₂ (omega arith) (omega arith) in
+      write-at 8 mark o₂ z (ez ∙ sym (overwritten mark (take (length o₂ - 8) (drop 8 o₂)) last)) ∙ ap (overwrite 8 mark) b
+      ∙ overwrite-next 0 8 (shape ++ offset) mark out (omega arith) (omega arith) ∙ overwritten ((shape ++ offset) ++ mark) out (size ∙ refl)
+
+-- ---- the winds at the front of a buffer
+pub winds-front : {n m : ℕ} (wind : List ℤ) → n ≤ length wind → n ≡ m → blocks (length (take n wind)) (λ i. bytes16 (get_or (take n wind) i (pos 0))) ≡ blocks m (λ f. bytes16 (wind_at wind f))
+winds-front {n} {m} wind h e =
+    ap (λ k. blocks k (λ i. bytes16 (get_or (take n wind) i (pos 0)))) (length-take-le n wind h) ∙ blocks-cong n _ _ (λ i l. ap bytes16 (get_or-take n wind i (pos 0) l)) ∙ ap (λ k. blocks k (λ f. bytes16 (wind_at wind f))) e

@@ -10,6 +10,7 @@ ghost use Rattle.rules.specs.FieldFile.{section_start, file_length, tail, file_o
 ghost use Rattle.rules.specs.Answers.{answers};
 
 use file_layout::MARK;
+use file_numbers::Stored;
 use rules::{Refusal, Shape};
 
 mod checks; // checks.rt: the checks of a writing
@@ -28,7 +29,7 @@ fn write_tracers(file: &mut [u8], field: &[u32], shape: Shape)
     for k in 0..tracers {
         let end = start + 4 * numbers;
         let to = from + numbers;
-        file_sections::write_numbers(&mut file[start..end], &field[from..to], numbers);
+        file_sections::write_all(&mut file[start..end], &field[from..to]);
         start = end;
         from = to;
     }
@@ -42,7 +43,8 @@ fn write_table(table: &mut [u8], shape: Shape)
 {
     let n = shape.tracers + 1;
     for i in 0..n {
-        file_numbers::put32(table, 4 * i, file_layout::section_start(shape, i) as u32);
+        let offset = file_layout::section_start(shape, i) as u32;
+        offset.write(&mut table[4 * i..]);
     }
 }
 
@@ -52,15 +54,10 @@ fn write_tail(out: &mut [u8], shape: Shape)
     requires out_len { length out.old ≡ 12 }
     ensures { out.new ≡ tail quadratic shape }
 {
-    out[0] = shape.nx as u8;
-    out[1] = shape.ny as u8;
-    out[2] = shape.tracers as u8;
-    out[3] = 0;
-    file_numbers::put32(out, 4, file_layout::table_start(shape) as u32);
-    out[8] = MARK[0];
-    out[9] = MARK[1];
-    out[10] = MARK[2];
-    out[11] = MARK[3];
+    out[..4].copy_from_slice(&[shape.nx as u8, shape.ny as u8, shape.tracers as u8, 0]);
+    let table = file_layout::table_start(shape) as u32;
+    table.write(&mut out[4..]);
+    out[8..].copy_from_slice(&MARK);
 }
 
 // Writes the file of a field and a wind that have passed the checks: the wind's section, the tracers' sections, the table, the tail.
@@ -76,7 +73,8 @@ fn write_parts(file: &mut [u8], field: &[u32], wind: &[i16], shape: Shape)
     let table = file_layout::table_start(shape);
     let tail = table + 4 * (shape.tracers + 1);
     let end = file_layout::file_length(shape);
-    file_sections::write_winds(&mut file[winds..tracers], wind, field_layout::faces(shape));
+    let faces = field_layout::faces(shape);
+    file_sections::write_all(&mut file[winds..tracers], &wind[..faces]);
     write_tracers(file, field, shape);
     write_table(&mut file[table..tail], shape);
     write_tail(&mut file[tail..end], shape);

@@ -8,6 +8,7 @@ use Rattle.whole.proofs.OverwriteLaws.{part-size, filled-front}
 use Rattle.rules.specs.Field.{quadratic, part_length, field_length}
 use Rattle.rules.proofs.ShapeLaws.{row_more}
 use Rattle.field_layout.proofs.PlaceLaws.{tracer-room, field_is, field-le}
+use Rattle.file_sections.specs.Numbers.{numbers_of}
 use Rattle.file_layout.proofs.LayoutLaws.{tracer-span}
 use Rattle.file_reading.proofs.ReadLaws.{field_number, field-numbers, tracer-read}
 use Rattle.file_reading.proofs.read_tracers.Goals as goal
@@ -34,32 +35,34 @@ room c =
 pub overflow_add-to_end : goal.overflow_add-to_end
 overflow_add-to_end c = record { fits = omega (arith, room (goal.at.overflow_add-to_end c).In-loop-s) }
 
-pub slice_bounds-read_numbers-count : goal.slice_bounds-read_numbers-count
-slice_bounds-read_numbers-count c = omega (arith, span (goal.at.slice_bounds-read_numbers-count c).After-section_start-from_end)
+pub slice_bounds-read_all-count : goal.slice_bounds-read_all-count
+slice_bounds-read_all-count c = omega (arith, span (goal.at.slice_bounds-read_all-count c).After-section_start-from_end)
 
-pub slice_bounds-read_numbers-start : goal.slice_bounds-read_numbers-start
-slice_bounds-read_numbers-start c = omega (arith, span (goal.at.slice_bounds-read_numbers-start c).After-section_start-from_end)
+pub slice_bounds-read_all-start : goal.slice_bounds-read_all-start
+slice_bounds-read_all-start c = omega (arith, span (goal.at.slice_bounds-read_all-start c).After-section_start-from_end)
 
-pub slice_bounds-read_numbers-end : goal.slice_bounds-read_numbers-end
-slice_bounds-read_numbers-end c = omega (arith, span (goal.at.slice_bounds-read_numbers-end c).After-section_start-from_end)
+pub slice_bounds-read_all-end : goal.slice_bounds-read_all-end
+slice_bounds-read_all-end c = omega (arith, span (goal.at.slice_bounds-read_all-end c).After-section_start-from_end)
 
 pub offset_bounds-field-to : goal.offset_bounds-field-to
 offset_bounds-field-to c = omega (arith, room (goal.at.offset_bounds-field-to c).In-loop-s)
 
-pub slice_bounds-read_numbers-end-in-loop-s : goal.slice_bounds-read_numbers-end-in-loop-s
-slice_bounds-read_numbers-end-in-loop-s c = omega (arith, room (goal.at.slice_bounds-read_numbers-end-in-loop-s c).In-loop-s)
+pub slice_bounds-read_all-end-in-loop-s : goal.slice_bounds-read_all-end-in-loop-s
+slice_bounds-read_all-end-in-loop-s c = omega (arith, room (goal.at.slice_bounds-read_all-end-in-loop-s c).In-loop-s)
 
-pub read_numbers-requires : goal.read_numbers-requires
-read_numbers-requires c =
+pub read_all-requires : goal.read_all-requires
+read_all-requires c =
     let n = c.part_length-n.result in
-    record { n_in_bounds = omega (arith, c.part_length-n.ensures, part-size (4 * part_length quadratic c.args.shape) c.section_start-from.result (c.section_start-from_end.result - c.section_start-from.result) c.args.file.now (omega (arith, span (goal.at.read_numbers-requires c).After-section_start-from_end)) (omega (arith, span (goal.at.read_numbers-requires c).After-section_start-from_end))); n_in_bounds_2 = omega (arith, part-size n c.loop-s.to (c.loop-s.to + n - c.loop-s.to) c.loop-s.field (omega arith) (room (goal.at.read_numbers-requires c).In-loop-s).0) }
+    let t = span (goal.at.read_all-requires c).After-section_start-from_end in
+    omega (arith, c.part_length-n.ensures, part-size (4 * part_length quadratic c.args.shape) c.section_start-from.result (c.section_start-from_end.result - c.section_start-from.result) c.args.file.now (omega (arith, t)) (omega (arith, t)), part-size n c.loop-s.to (c.loop-s.to + n - c.loop-s.to) c.loop-s.field (omega arith) (room (goal.at.read_all-requires c).In-loop-s).0)
 
 pub loop-s-preserved : goal.loop-s-preserved
+unfolding numbers_of
 loop-s-preserved c =
     let a = c.args in
     let n = c.part_length-n.result in
     let next = tracer-read a.shape a.file.now c.loop-s.s c.section_start-from.result (c.section_start-from_end.result - c.section_start-from.result) c.loop-s.to n (c.loop-s.to + n - c.loop-s.to) a.field.now c.loop-s.field _
-    c.section_start-from.ensures (omega (arith, span (goal.at.loop-s-preserved c).After-section_start-from_end)) c.part_length-n.ensures c.loop-s.invariant.1 (omega arith) (room (goal.at.loop-s-preserved c).In-loop-s).0 c.loop-s.invariant.3 c.read_numbers.ensures in
+    c.section_start-from.ensures (omega (arith, span (goal.at.loop-s-preserved c).After-section_start-from_end)) c.part_length-n.ensures c.loop-s.invariant.1 (omega arith) (room (goal.at.loop-s-preserved c).In-loop-s).0 c.loop-s.invariant.3 c.read_all.ensures in
     (omega arith, omega (arith, row_more n c.loop-s.s, c.loop-s.invariant.1), search rules, next)
 
 pub returns : goal.returns

@@ -3,12 +3,14 @@ use mathlib.Core.Path.{◌≡◌, ap, ◌∙◌}
 use Prim.Native.Nat.{◌-◌, ◌*◌, ◌≤◌}
 use native.Mathlib.Omega.{arith}
 use lib.ListN.{length, take, drop}
+use lib.Seq.{length-take-le}
 use Rattle.whole.specs.Table.{overwrite}
 use Rattle.whole.proofs.OverwriteLaws.{part-size}
 use Rattle.rules.specs.Field.{faces}
+use Rattle.rules.specs.Bytes.{number16}
 use Rattle.file_sections.specs.Numbers.{winds_of}
 use Rattle.file_layout.proofs.LayoutLaws.{wind-span}
-use Rattle.file_reading.proofs.ReadLaws.{winds-are}
+use Rattle.file_reading.proofs.ReadLaws.{winds-are, front-filled}
 use Rattle.file_reading.proofs.read_wind.Goals as goal
 use Rattle.file_reading.proofs.read_wind.Goals.{After-section_start-end}
 
@@ -18,23 +20,27 @@ span c =
     let t = wind-span c.args.shape c.section_start-start.result c.section_start-end.result c.section_start-start.ensures c.section_start-end.ensures in
     (t.0, t.1, omega (arith, t.2, c.requires))
 
-pub slice_bounds-read_winds-count : goal.slice_bounds-read_winds-count
-slice_bounds-read_winds-count c = omega (arith, span (goal.at.slice_bounds-read_winds-count c).After-section_start-end)
+pub slice_bounds-read_all-count : goal.slice_bounds-read_all-count
+slice_bounds-read_all-count c = omega (arith, span (goal.at.slice_bounds-read_all-count c).After-section_start-end)
 
-pub slice_bounds-read_winds-start : goal.slice_bounds-read_winds-start
-slice_bounds-read_winds-start c = omega (arith, span (goal.at.slice_bounds-read_winds-start c).After-section_start-end)
+pub slice_bounds-read_all-start : goal.slice_bounds-read_all-start
+slice_bounds-read_all-start c = omega (arith, span (goal.at.slice_bounds-read_all-start c).After-section_start-end)
 
-pub slice_bounds-read_winds-end : goal.slice_bounds-read_winds-end
-slice_bounds-read_winds-end c = omega (arith, span (goal.at.slice_bounds-read_winds-end c).After-section_start-end)
+pub slice_bounds-read_all-end : goal.slice_bounds-read_all-end
+slice_bounds-read_all-end c = omega (arith, span (goal.at.slice_bounds-read_all-end c).After-section_start-end)
 
-pub read_winds-requires : goal.read_winds-requires
-read_winds-requires c =
-    record { n_in_bounds = omega (arith, c.faces.ensures, part-size (2 * faces c.args.shape) c.section_start-start.result (c.section_start-end.result - c.section_start-start.result) c.args.file.now (omega (arith, span (goal.at.read_winds-requires c).After-section_start-end)) (omega (arith, span (goal.at.read_winds-requires c).After-section_start-end))); n_in_bounds_2 = omega (arith, c.faces.ensures, c.requires.shape_in_bounds) }
+pub read_all-requires : goal.read_all-requires
+read_all-requires c =
+    let t = span (goal.at.read_all-requires c).After-section_start-end in
+    omega (arith, c.faces-faces.ensures, part-size (2 * faces c.args.shape) c.section_start-start.result (c.section_start-end.result - c.section_start-start.result) c.args.file.now (omega (arith, t)) (omega (arith, t)), length-take-le c.faces-faces.result c.args.wind.now (omega (arith, c.faces-faces.ensures, c.requires.shape_in_bounds)))
 
 pub returns : goal.returns
+unfolding winds_of
 returns c =
     let a = c.args in
     let start = c.section_start-start.result in
     let size = c.section_start-end.result - start in
-    c.read_winds.ensures ∙ ap (λ n. overwrite 0 (winds_of (take size (drop start a.file.now)) n) a.wind.now) c.faces.ensures
-    ∙ ap (λ x. overwrite 0 x a.wind.now) (winds-are a.shape a.file.now start size (span (goal.at.returns c).After-section_start-end).0 (omega (arith, span (goal.at.returns c).After-section_start-end)))
+    let t = span (goal.at.returns c).After-section_start-end in
+    front-filled c.faces-faces.result (λ i. number16 (take size (drop start a.file.now)) (2 * i)) _ a.wind.now (omega (arith, c.faces-faces.ensures, c.requires.shape_in_bounds)) c.read_all.ensures
+    ∙ ap (λ n. overwrite 0 (winds_of (take size (drop start a.file.now)) n) a.wind.now) c.faces-faces.ensures
+    ∙ ap (λ x. overwrite 0 x a.wind.now) (winds-are a.shape a.file.now start size t.0 (omega (arith, t)))

@@ -1,26 +1,27 @@
 use mathlib.Core.Path.{◌≡◌, ◌∙◌}
 use borrow.Author.Rules.{rules}
 use native.Mathlib.Omega.{arith}
-use Prim.Native.Nat.{◌+◌}
+use Prim.Native.Nat.{◌+◌, ◌*◌}
 use Rattle.whole.specs.Table.{blocks, overwrite}
 use Rattle.rules.specs.Field.{quadratic}
 use Rattle.rules.specs.FieldFile.{section_start}
 use Rattle.file_layout.proofs.LayoutLaws.{section-le}
 use Rattle.file_writing.proofs.WritingLaws.{next-offset}
+use Rattle.file_numbers.proofs.PlaceLaws.{write-at}
 use Rattle.file_writing.proofs.write_table.Goals as goal
 
 pub loop-i-init : goal.loop-i-init
 unfolding overwrite blocks
 loop-i-init c = search rules
 
-pub overflow_cast-section_start : goal.overflow_cast-section_start
-overflow_cast-section_start c = record { fits = omega (arith, c.section_start.ensures, section-le c.args.shape c.loop-i.i c.requires.admitted (omega arith)) }
+pub overflow_cast-offset : goal.overflow_cast-offset
+overflow_cast-offset c = record { fits = omega (arith, c.section_start-offset.ensures, section-le c.args.shape c.loop-i.i c.requires.admitted (omega arith)) }
 
 pub loop-i-preserved : goal.loop-i-preserved
 loop-i-preserved c =
     let l = c.loop-i in
     let x = section_start quadratic c.args.shape in
-    (omega arith, omega arith, c.put32.ensures ∙ next-offset x c.args.table.now l.i c.section_start.result l.table c.section_start.ensures l.invariant.2 (omega (arith, c.requires.tracers_in_bounds)))
+    (omega arith, omega arith, write-at (4 * l.i) _ l.table _ c.write.ensures ∙ next-offset x c.args.table.now l.i c.section_start-offset.result l.table c.section_start-offset.ensures l.invariant.2 (omega (arith, c.requires.tracers_in_bounds)))
 
 pub returns : goal.returns
 returns c =

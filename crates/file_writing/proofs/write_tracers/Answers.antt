@@ -51,20 +51,21 @@ overflow_add-end c = record { fits = omega (arith, section-ends (goal.at.overflo
 pub overflow_add-to : goal.overflow_add-to
 overflow_add-to c = record { fits = omega (arith, within (goal.at.overflow_add-to c).In-loop-k) }
 
-pub slice_bounds-write_numbers-end : goal.slice_bounds-write_numbers-end
-slice_bounds-write_numbers-end c = omega (arith, section-ends (goal.at.slice_bounds-write_numbers-end c).In-loop-k, c.loop-k.invariant.3)
+pub slice_bounds-write_all-end : goal.slice_bounds-write_all-end
+slice_bounds-write_all-end c = omega (arith, section-ends (goal.at.slice_bounds-write_all-end c).In-loop-k, c.loop-k.invariant.3)
 
 pub offset_bounds-field-from : goal.offset_bounds-field-from
 offset_bounds-field-from c = omega (arith, within (goal.at.offset_bounds-field-from c).In-loop-k)
 
-pub slice_bounds-write_numbers-end-in-loop-k : goal.slice_bounds-write_numbers-end-in-loop-k
-slice_bounds-write_numbers-end-in-loop-k c = omega (arith, within (goal.at.slice_bounds-write_numbers-end-in-loop-k c).In-loop-k, c.requires.shape_in_bounds_2)
+pub slice_bounds-write_all-end-in-loop-k : goal.slice_bounds-write_all-end-in-loop-k
+slice_bounds-write_all-end-in-loop-k c = omega (arith, within (goal.at.slice_bounds-write_all-end-in-loop-k c).In-loop-k, c.requires.shape_in_bounds_2)
 
-pub write_numbers-requires : goal.write_numbers-requires
-write_numbers-requires c =
+pub write_all-requires : goal.write_all-requires
+write_all-requires c =
     let l = c.loop-k in
     let w = c.part_length-numbers.result in
-    record { n_in_bounds = omega (arith, part-size (4 * w) l.start (l.start + 4 * w - l.start) l.file (add-sub_cancel_left l.start (4 * w)) (omega (arith, section-ends (goal.at.write_numbers-requires c).In-loop-k, l.invariant.3))); n_in_bounds_2 = omega (arith, part-size w l.from (l.from + w - l.from) c.args.field.now (add-sub_cancel_left l.from w) (omega (arith, within (goal.at.write_numbers-requires c).In-loop-k, c.requires.shape_in_bounds_2))) }
+    let at = (goal.at.write_all-requires c).In-loop-k in
+    omega (arith, part-size (4 * w) l.start (l.start + 4 * w - l.start) l.file (add-sub_cancel_left l.start (4 * w)) (omega (arith, section-ends at, l.invariant.3)), part-size w l.from (l.from + w - l.from) c.args.field.now (add-sub_cancel_left l.from w) (omega (arith, within at, c.requires.shape_in_bounds_2)))
 
 pub loop-k-preserved : goal.loop-k-preserved
 loop-k-preserved c =
@@ -73,8 +74,8 @@ loop-k-preserved c =
     let f = c.faces-start.result in
     let file₀ = c.args.file.now in
     let next : (l.k + 1) * w ≡ l.k * w + w = rw (add-one l.k) (suc-mul l.k w) in
-    let moved = next-tracer c.args.field.now file₀ (2 * f) l.k w l.from l.start (l.from + w - l.from) (l.start + 4 * w - l.start) l.file c.write_numbers.new.section
-    l.invariant.1 l.invariant.2 (add-sub_cancel_left l.from w) (add-sub_cancel_left l.start (4 * w)) l.invariant.4 l.invariant.3 (section-ends (goal.at.loop-k-preserved c).In-loop-k).0 c.write_numbers.ensures in
+    let moved = next-tracer c.args.field.now file₀ (2 * f) l.k w l.from l.start (l.from + w - l.from) (l.start + 4 * w - l.start) l.file c.write_all.new.section
+    l.invariant.1 l.invariant.2 (add-sub_cancel_left l.from w) (add-sub_cancel_left l.start (4 * w)) l.invariant.4 l.invariant.3 (section-ends (goal.at.loop-k-preserved c).In-loop-k).0 (omega (arith, within (goal.at.loop-k-preserved c).In-loop-k, c.requires.shape_in_bounds_2)) (c.write_all.ensures 0) in
     (omega arith, omega (arith, l.invariant.1, next), omega (arith, l.invariant.2, next), ap length moved ∙ written-length c.args.field.now file₀ (2 * f) ((l.k + 1) * w) (omega (arith, section-ends (goal.at.loop-k-preserved c).In-loop-k, l.invariant.2, next)), moved)
 
 pub shape_of-file : goal.shape_of-file

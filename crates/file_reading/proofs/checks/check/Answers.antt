@@ -60,28 +60,22 @@ slice_bounds-winds_sound-start c = let p = goal.at.slice_bounds-winds_sound-star
 pub slice_bounds-winds_sound-end : goal.slice_bounds-winds_sound-end
 slice_bounds-winds_sound-end c = let p = goal.at.slice_bounds-winds_sound-end c in omega (arith, span p.After-section_start-end (long p.Else-not-offsets_right))
 
-pub winds_sound-requires : goal.winds_sound-requires
-winds_sound-requires c =
-    let a = c.args in
-    let p = goal.at.winds_sound-requires c in
-    let t = span p.After-section_start-end (long p.Else-not-offsets_right) in
-    omega (arith, c.faces-faces.ensures, part-size (2 * faces a.shape) c.section_start-start.result (c.section_start-end.result - c.section_start-start.result) a.file.now (omega (arith, t)) (omega (arith, t)))
-
 -- the test of the wind section is of the wind that the file holds
-tested : (c : After-winds_sound) → c.section_start-start.result ≡ 0 → c.section_start-end.result ≡ 2 * faces c.args.shape
+tested : (c : After-winds_sound) → (c.section_start-start.result ≡ 0) × (c.section_start-end.result ≡ 2 * faces c.args.shape) × (c.section_start-end.result ≤ length c.args.file.now)
     → c.winds_sound.result ≡ wind_sound c.args.shape (file_wind c.args.shape c.args.file.now)
-tested c s e =
+tested c t =
     let a = c.args in
     let start = c.section_start-start.result in
     let size = c.section_start-end.result - start in
-    c.winds_sound.ensures ∙ ap (λ n. all n (λ f. wind_in_range (number16 (take size (drop start a.file.now)) (2 * f)))) c.faces-faces.ensures ∙ winds-tested a.shape a.file.now start size s (omega (arith, s, e))
+    let n = part-size (2 * faces a.shape) start size a.file.now (omega (arith, t)) (omega (arith, t)) in
+    c.winds_sound.ensures ∙ ap (λ n. all n (λ f. wind_in_range (number16 (take size (drop start a.file.now)) (2 * f)))) (omega (arith, n)) ∙ winds-tested a.shape a.file.now start size t.0 (omega (arith, t))
 
 pub returns-then-not-winds_sound : goal.returns-then-not-winds_sound
 returns-then-not-winds_sound c =
     let a = c.args in
     let p = goal.at.returns-then-not-winds_sound c in
     let t = span p.After-section_start-end (long p.Else-not-offsets_right) in
-    check-5 a.shape a.file.now a.field a.wind (right p.Else-not-offsets_right) (fields p.Else-field-field_length) (winds p.Else-wind-faces) (sym (tested p.After-winds_sound t.0 t.1) ∙ c.if-not-winds_sound.true)
+    check-5 a.shape a.file.now a.field a.wind (right p.Else-not-offsets_right) (fields p.Else-field-field_length) (winds p.Else-wind-faces) (sym (tested p.After-winds_sound t) ∙ c.if-not-winds_sound.true)
 
 pub tracers_sound-requires : goal.tracers_sound-requires
 tracers_sound-requires c = record { admitted = c.requires; file_len = long (goal.at.tracers_sound-requires c).Else-not-offsets_right }
@@ -91,11 +85,11 @@ returns-then-not-tracers_sound c =
     let a = c.args in
     let p = goal.at.returns-then-not-tracers_sound c in
     let t = span p.After-section_start-end (long p.Else-not-offsets_right) in
-    check-6 a.shape a.file.now a.field a.wind (right p.Else-not-offsets_right) (fields p.Else-field-field_length) (winds p.Else-wind-faces) (sym (tested p.After-winds_sound t.0 t.1) ∙ c.if-not-winds_sound.false) (sym c.tracers_sound.ensures ∙ c.if-not-tracers_sound.true)
+    check-6 a.shape a.file.now a.field a.wind (right p.Else-not-offsets_right) (fields p.Else-field-field_length) (winds p.Else-wind-faces) (sym (tested p.After-winds_sound t) ∙ c.if-not-winds_sound.false) (sym c.tracers_sound.ensures ∙ c.if-not-tracers_sound.true)
 
 pub returns : goal.returns
 returns c =
     let a = c.args in
     let p = goal.at.returns c in
     let t = span p.After-section_start-end (long p.Else-not-offsets_right) in
-    check_done a.shape a.file.now a.field a.wind (right p.Else-not-offsets_right) (fields p.Else-field-field_length) (winds p.Else-wind-faces) (sym (tested p.After-winds_sound t.0 t.1) ∙ c.if-not-winds_sound.false) (sym c.tracers_sound.ensures ∙ c.if-not-tracers_sound.false)
+    check_done a.shape a.file.now a.field a.wind (right p.Else-not-offsets_right) (fields p.Else-field-field_length) (winds p.Else-wind-faces) (sym (tested p.After-winds_sound t) ∙ c.if-not-winds_sound.false) (sym c.tracers_sound.ensures ∙ c.if-not-tracers_sound.false)

@@ -3,7 +3,10 @@ use mathlib.Core.Bool.{true, false}
 use Prim.Native.Nat.{◌+◌, ◌-◌, ◌*◌, ◌≤◌}
 use native.Mathlib.Omega.{arith}
 use borrow.Author.Tests.{eq-eqb, ne_eqb}
-use lib.ListN.{length}
+use lib.ListN.{length, length-drop}
+use Rattle.std.proofs.lemmas.List.{take_rest}
+use Rattle.file_numbers.specs.Laws.{laws32}
+use Rattle.file_numbers.proofs.PlaceLaws.{read-at}
 use Rattle.whole.specs.Sum.{all}
 use Rattle.rules.specs.Field.{quadratic}
 use Rattle.rules.specs.Bytes.{number32}
@@ -12,7 +15,7 @@ use Rattle.whole.proofs.SumLaws.{all_more, all-fails}
 use Rattle.file_layout.proofs.LayoutLaws.{length-is, length-le}
 use Rattle.file_reading.proofs.ReadLaws.{offset, wrong-length, wrong-table, by-offsets}
 use Rattle.file_reading.proofs.checks.offsets_right.Goals as goal
-use Rattle.file_reading.proofs.checks.offsets_right.Goals.{After-number32-in-loop-i, Else-n-file_length, Else-number32-table, In-loop-i}
+use Rattle.file_reading.proofs.checks.offsets_right.Goals.{After-read, After-read-in-loop-i, Else-n-file_length, Else-read-table, In-loop-i}
 
 pub returns-then-n-file_length : goal.returns-then-n-file_length
 returns-then-n-file_length c =
@@ -26,16 +29,20 @@ long c = omega (arith, c.if-n-file_length.false, c.file_length.ensures)
 pub overflow_sub-n : goal.overflow_sub-n
 overflow_sub-n c = omega (arith, long (goal.at.overflow_sub-n c).Else-n-file_length, length-is quadratic c.args.shape)
 
-pub number32-requires : goal.number32-requires
-number32-requires c = omega (arith, long (goal.at.number32-requires c).Else-n-file_length, length-is quadratic c.args.shape)
+pub read-requires : goal.read-requires
+read-requires c = simp (take_rest, length-drop) (omega (arith, long (goal.at.read-requires c).Else-n-file_length, length-is quadratic c.args.shape))
 
-pub returns-then-number32-table : goal.returns-then-number32-table
-returns-then-number32-table c =
+-- the table's offset, in the tail
+offset-read : (c : After-read) → c.read.result ≡ number32 c.args.file.now (length c.args.file.now - 8)
+offset-read c = read-at laws32 c.args.file.now (length c.args.file.now - 8) _ c.read.ensures
+
+pub returns-then-read-table : goal.returns-then-read-table
+returns-then-read-table c =
     let a = c.args in
-    wrong-table a.shape a.file.now (long (goal.at.returns-then-number32-table c).Else-n-file_length) (λ q. c.if-number32-table.true (c.number32.ensures ∙ q ∙ sym c.table_start-table.ensures))
+    wrong-table a.shape a.file.now (long (goal.at.returns-then-read-table c).Else-n-file_length) (λ q. c.if-read-table.true (offset-read (goal.at.returns-then-read-table c).After-read ∙ q ∙ sym c.table_start-table.ensures))
 
-table-right : (c : Else-number32-table) → number32 c.args.file.now (length c.args.file.now - 8) ≡ table_start quadratic c.args.shape
-table-right c = sym c.number32.ensures ∙ c.if-number32-table.false ∙ c.table_start-table.ensures
+table-right : (c : Else-read-table) → number32 c.args.file.now (length c.args.file.now - 8) ≡ table_start quadratic c.args.shape
+table-right c = sym (read-at laws32 c.args.file.now (length c.args.file.now - 8) _ c.read.ensures) ∙ c.if-read-table.false ∙ c.table_start-table.ensures
 
 pub loop-i-init : goal.loop-i-init
 unfolding all
@@ -50,27 +57,33 @@ room c h =
 pub overflow_add-table : goal.overflow_add-table
 overflow_add-table c = record { fits = omega (arith, room (goal.at.overflow_add-table c).In-loop-i (long (goal.at.overflow_add-table c).Else-n-file_length)) }
 
-pub number32-requires-in-loop-i : goal.number32-requires-in-loop-i
-number32-requires-in-loop-i c = omega (arith, room (goal.at.number32-requires-in-loop-i c).In-loop-i (long (goal.at.number32-requires-in-loop-i c).Else-n-file_length))
+pub slice_bounds-read-count-in-loop-i : goal.slice_bounds-read-count-in-loop-i
+slice_bounds-read-count-in-loop-i c = let p = goal.at.slice_bounds-read-count-in-loop-i c in omega (arith, room p.In-loop-i (long p.Else-n-file_length))
+
+pub slice_bounds-read-start-in-loop-i : goal.slice_bounds-read-start-in-loop-i
+slice_bounds-read-start-in-loop-i c = let p = goal.at.slice_bounds-read-start-in-loop-i c in omega (arith, room p.In-loop-i (long p.Else-n-file_length))
+
+pub read-requires-in-loop-i : goal.read-requires-in-loop-i
+read-requires-in-loop-i c = let p = goal.at.read-requires-in-loop-i c in simp (take_rest, length-drop) (omega (arith, room p.In-loop-i (long p.Else-n-file_length)))
 
 -- what a turn compares is what the table holds
-read : (c : After-number32-in-loop-i) → c.number32-in-loop-i.result ≡ number32 c.args.file.now (table_start quadratic c.args.shape + 4 * c.loop-i.i)
+read : (c : After-read-in-loop-i) → c.read-in-loop-i.result ≡ number32 c.args.file.now (table_start quadratic c.args.shape + 4 * c.loop-i.i)
 read c =
-    c.number32-in-loop-i.ensures ∙ ap (λ n. number32 c.args.file.now (n + 4 * c.loop-i.i)) c.table_start-table.ensures
+    read-at laws32 c.args.file.now (c.table_start-table.result + 4 * c.loop-i.i) _ c.read-in-loop-i.ensures ∙ ap (λ n. number32 c.args.file.now (n + 4 * c.loop-i.i)) c.table_start-table.ensures
 
-pub returns-then-number32-section_start : goal.returns-then-number32-section_start
-returns-then-number32-section_start c =
+pub returns-then-read-section_start : goal.returns-then-read-section_start
+returns-then-read-section_start c =
     let a = c.args in
-    by-offsets a.shape a.file.now (long (goal.at.returns-then-number32-section_start c).Else-n-file_length) (table-right (goal.at.returns-then-number32-section_start c).Else-number32-table) false
-    (all-fails (a.shape.tracers + 1) (offset a.shape a.file.now) c.loop-i.i (omega arith) (ne_eqb _ _ (λ q. c.if-number32-section_start.true (read (goal.at.returns-then-number32-section_start c).After-number32-in-loop-i ∙ q ∙ sym c.section_start.ensures))))
+    by-offsets a.shape a.file.now (long (goal.at.returns-then-read-section_start c).Else-n-file_length) (table-right (goal.at.returns-then-read-section_start c).Else-read-table) false
+    (all-fails (a.shape.tracers + 1) (offset a.shape a.file.now) c.loop-i.i (omega arith) (ne_eqb _ _ (λ q. c.if-read-section_start.true (read (goal.at.returns-then-read-section_start c).After-read-in-loop-i ∙ q ∙ sym c.section_start.ensures))))
 
 pub loop-i-preserved : goal.loop-i-preserved
 loop-i-preserved c =
     let a = c.args in
-    (omega arith, all_more c.loop-i.i (offset a.shape a.file.now) c.loop-i.invariant.1 (eq-eqb _ _ (sym (read (goal.at.loop-i-preserved c).After-number32-in-loop-i) ∙ c.if-number32-section_start.false ∙ c.section_start.ensures)))
+    (omega arith, all_more c.loop-i.i (offset a.shape a.file.now) c.loop-i.invariant.1 (eq-eqb _ _ (sym (read (goal.at.loop-i-preserved c).After-read-in-loop-i) ∙ c.if-read-section_start.false ∙ c.section_start.ensures)))
 
 pub returns : goal.returns
 returns c =
     let a = c.args in
     let q : c.loop-i.i ≡ a.shape.tracers + 1 = omega arith in
-    by-offsets a.shape a.file.now (long (goal.at.returns c).Else-n-file_length) (table-right (goal.at.returns c).Else-number32-table) true (rw q at c.loop-i.invariant.1)
+    by-offsets a.shape a.file.now (long (goal.at.returns c).Else-n-file_length) (table-right (goal.at.returns c).Else-read-table) true (rw q at c.loop-i.invariant.1)

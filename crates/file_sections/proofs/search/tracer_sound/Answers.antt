@@ -11,7 +11,8 @@ use Rattle.rules.proofs.ShapeLaws.{row_more, all-rows}
 use Rattle.field_elements.proofs.ElementLaws.{weighs-small}
 use Rattle.field_layout.proofs.PlaceLaws.{elements-within}
 use Rattle.field_search.proofs.SearchLaws.{search-starts, at-element, element-starts, number-added, element-ends, numbers-room, sound-all, broken}
-use Rattle.file_sections.proofs.SectionLaws.{number_at, read-at}
+use Rattle.file_sections.proofs.SectionLaws.{number_at}
+use Rattle.file_numbers.proofs.PlaceLaws.{read-at}
 use Rattle.file_numbers.specs.Laws.{laws32}
 use Rattle.file_sections.proofs.search.tracer_sound.Invariants.{grid, held}
 use Rattle.file_sections.proofs.search.tracer_sound.Goals as goal
