@@ -13,34 +13,17 @@ use Rattle.whole.specs.Sum.{all}
 use Rattle.whole.specs.Table.{table, overwrite}
 use Rattle.whole.proofs.TableLaws.{get_d-table, table-cong}
 use Rattle.whole.proofs.SumLaws.{all-cong}
-use Rattle.whole.proofs.OverwriteLaws.{part_at, part-size, part_room, filled-front}
+use Rattle.whole.proofs.OverwriteLaws.{part-size, part_room, filled-front}
 use Rattle.whole.proofs.ListParts.{table-part, fill-part}
 use Rattle.rules.specs.declared.Shape.{Shape}
 use Rattle.rules.specs.Field.{quadratic, faces, part_length, field_length, part, wind_in_range}
 use Rattle.rules.specs.Calls.{wind_at, wind_sound}
-use Rattle.rules.specs.Bytes.{number32, number16, byte_at}
+use Rattle.rules.specs.Bytes.{number32, number16}
 use Rattle.rules.specs.FieldFile.{section_start, table_start, file_length, offsets_right, file_wind, file_field}
+use Rattle.file_numbers.specs.Laws.{laws32, laws16}
+use Rattle.file_numbers.proofs.PlaceLaws.{number-part}
 use Rattle.file_sections.specs.Numbers.{numbers_of, winds_of}
 use Rattle.file_layout.proofs.LayoutLaws.{tracer-start}
-
--- ---- numbers of a part of the file
-module _ (file : List ℕ) (s k : ℕ) where
-  byte-part : (i : ℕ) → i < k → byte_at (take k (drop s file)) i ≡ byte_at file (s + i)
-  byte-part i h = part_at k s k file i 0 refl h
-
-  pub number16-part : (i : ℕ) → i + 2 ≤ k → number16 (take k (drop s file)) i ≡ number16 file (s + i)
-  unfolding number16
-  number16-part i h =
-      let e : s + (i + 1) ≡ s + i + 1 = omega arith in
-      rw (byte-part i (omega arith), byte-part (i + 1) (omega arith), e)
-
-  pub number32-part : (i : ℕ) → i + 4 ≤ k → number32 (take k (drop s file)) i ≡ number32 file (s + i)
-  unfolding number32
-  number32-part i h =
-      let e : s + (i + 1) ≡ s + i + 1 = omega arith in
-      let e' : s + (i + 2) ≡ s + i + 2 = omega arith in
-      let e'' : s + (i + 3) ≡ s + i + 3 = omega arith in
-      rw (byte-part i (omega arith), byte-part (i + 1) (omega arith), byte-part (i + 2) (omega arith), byte-part (i + 3) (omega arith), e, e', e'')
 
 -- ---- numbers that are read into the front of a buffer
 pub front-filled : {A : Type 0} (n : ℕ) (f : ℕ → A) (p l : List A) → n ≤ length l → p ≡ table (length (take n l)) f → p ++ drop n l ≡ overwrite 0 (table n f) l
@@ -49,7 +32,7 @@ front-filled n f p l h e = ap (λ r. r ++ drop n l) (e ∙ ap (λ k. table k f) 
 -- ---- the wind section
 module _ (g : Shape) (file : List ℕ) (start k : ℕ) (first : start ≡ 0) (long : 2 * faces g ≤ k) where
   wind-number : (f : ℕ) → f < faces g → number16 (take k (drop start file)) (2 * f) ≡ number16 file (2 * f)
-  wind-number f h = number16-part file start k (2 * f) (omega arith) ∙ ap (λ n. number16 file (n + 2 * f)) first ∙ ap (number16 file) (zero-add (2 * f))
+  wind-number f h = number-part laws16 file start k (2 * f) (omega arith) ∙ ap (λ n. number16 file (n + 2 * f)) first ∙ ap (number16 file) (zero-add (2 * f))
 
   pub winds-are : winds_of (take k (drop start file)) (faces g) ≡ file_wind g file
   unfolding winds_of file_wind
@@ -77,7 +60,7 @@ module _ (g : Shape) (file : List ℕ) where
       let n = part_length quadratic g in
       table-cong n (λ i. number32 (take k (drop start file)) (4 * i)) (λ i. field_number (s * n + i))
       (λ i h. let e : start + 4 * i ≡ section_start quadratic g 1 + 4 * (s * n + i) = omega (arith, tracer-start quadratic g s, tracer-start quadratic g 0) in
-      number32-part file start k (4 * i) (omega arith) ∙ ap (number32 file) e)
+      number-part laws32 file start k (4 * i) (omega arith) ∙ ap (number32 file) e)
 
   -- read as its own part, it is the tracer's part of the field
   pub section-part : (s start k : ℕ) → s < g.tracers → start ≡ section_start quadratic g (s + 1) → k ≡ 4 * part_length quadratic g

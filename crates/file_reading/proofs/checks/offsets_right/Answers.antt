@@ -15,7 +15,7 @@ use Rattle.whole.proofs.SumLaws.{all_more, all-fails}
 use Rattle.file_layout.proofs.LayoutLaws.{length-is, length-le}
 use Rattle.file_reading.proofs.ReadLaws.{offset, wrong-length, wrong-table, by-offsets}
 use Rattle.file_reading.proofs.checks.offsets_right.Goals as goal
-use Rattle.file_reading.proofs.checks.offsets_right.Goals.{After-read, After-read-in-loop-i, Else-n-file_length, Else-read-table, In-loop-i}
+use Rattle.file_reading.proofs.checks.offsets_right.Goals.{After-read-in-loop-i, Else-n-file_length, Else-read-table, In-loop-i}
 
 pub returns-then-n-file_length : goal.returns-then-n-file_length
 returns-then-n-file_length c =
@@ -32,14 +32,10 @@ overflow_sub-n c = omega (arith, long (goal.at.overflow_sub-n c).Else-n-file_len
 pub read-requires : goal.read-requires
 read-requires c = simp (take_rest, length-drop) (omega (arith, long (goal.at.read-requires c).Else-n-file_length, length-is quadratic c.args.shape))
 
--- the table's offset, in the tail
-offset-read : (c : After-read) → c.read.result ≡ number32 c.args.file.now (length c.args.file.now - 8)
-offset-read c = read-at laws32 c.args.file.now (length c.args.file.now - 8) _ c.read.ensures
-
 pub returns-then-read-table : goal.returns-then-read-table
 returns-then-read-table c =
     let a = c.args in
-    wrong-table a.shape a.file.now (long (goal.at.returns-then-read-table c).Else-n-file_length) (λ q. c.if-read-table.true (offset-read (goal.at.returns-then-read-table c).After-read ∙ q ∙ sym c.table_start-table.ensures))
+    wrong-table a.shape a.file.now (long (goal.at.returns-then-read-table c).Else-n-file_length) (λ q. c.if-read-table.true (read-at laws32 a.file.now (length a.file.now - 8) _ c.read.ensures ∙ q ∙ sym c.table_start-table.ensures))
 
 table-right : (c : Else-read-table) → number32 c.args.file.now (length c.args.file.now - 8) ≡ table_start quadratic c.args.shape
 table-right c = sym (read-at laws32 c.args.file.now (length c.args.file.now - 8) _ c.read.ensures) ∙ c.if-read-table.false ∙ c.table_start-table.ensures
