@@ -13,7 +13,9 @@ use lib.ListN.{get_or}
 use Rattle.whole.specs.Sum.{sum, all}
 use Rattle.whole.proofs.SumLaws.{sum_more, sum_mono, all_more, all-fails}
 use Rattle.rules.specs.declared.Shape.{Shape}
-use Rattle.rules.specs.Answers.{accepted, refused, answer}
+use Rattle.std.specs.Prelude.{Result, Ok, Err, is_ok}
+use Rattle.rules.specs.declared.Refusal.{Refusal}
+use Rattle.rules.specs.Answers.{accepted, refused, answer, answered, number}
 use Rattle.rules.specs.Field.{quadratic, elements, element_length, elements_length, weight_sum, cell, remainder, mass, total, limit, sound, Admitted}
 use Rattle.rules.specs.Sizes.{most_elements}
 use Rattle.rules.proofs.QuadraticLaws.{weights-36}
@@ -169,3 +171,8 @@ module _ (g : Shape) (p : List ℕ) where
       go : (b : Bool) → cond b (accepted (total quadratic g p)) (refused 6) ≡ refused n → b ≡ false
       go true e = let z : ◌≡◌ {A = ℕ} 0 1 = cc in absurd (omega arith)
       go false e = refl
+
+-- a search accepts exactly a sound part
+pub is-sound : (g : Shape) (p : List ℕ) (r : Result ℕ Refusal) → answered r ≡ searched g p → is_ok r ≡ sound quadratic g p
+is-sound g p (Ok t) e = sym (searched-yes g p t (sym e))
+is-sound g p (Err x) e = sym (searched-no g p (number x) (sym e))

@@ -3,38 +3,35 @@
 
 ghost use Rattle.std.specs.Prelude.{◌≡◌, ◌+◌, ◌≤◌, eqb, length, get_or};
 ghost use Rattle.whole.specs.Sum.{all};
-ghost use Rattle.rules.specs.Field.{quadratic, Admitted};
+ghost use Rattle.rules.specs.Field.{quadratic};
 ghost use Rattle.rules.specs.Bytes.{byte_at};
 ghost use Rattle.rules.specs.FieldFile.{mark, section_start, table_start, file_length};
 
-use rules::Shape;
+use field_layout::Grid;
 
 // Where section i starts: the wind's is section 0, tracer s's is section s + 1, and the table comes after the last.
-pub fn section_start(shape: Shape, i: usize) -> usize
-    requires admitted { Admitted shape }
-    requires i_bound { i ≤ shape.tracers + 1 }
-    ensures { result ≡ section_start quadratic shape i }
+pub fn section_start(grid: Grid, i: usize) -> usize
+    requires { i ≤ grid.shape.tracers + 1 }
+    ensures { result ≡ section_start quadratic grid.shape i }
 {
     if i == 0 {
         return 0;
     }
-    2 * field_layout::faces(shape) + (i - 1) * (4 * field_layout::part_length(shape))
+    2 * grid.faces() + (i - 1) * (4 * grid.part_length())
 }
 
 // Where the table of offsets starts.
-pub fn table_start(shape: Shape) -> usize
-    requires { Admitted shape }
-    ensures { result ≡ table_start quadratic shape }
+pub fn table_start(grid: Grid) -> usize
+    ensures { result ≡ table_start quadratic grid.shape }
 {
-    section_start(shape, shape.tracers + 1)
+    section_start(grid, grid.shape.tracers + 1)
 }
 
 // The length of a file in bytes.
-pub fn file_length(shape: Shape) -> usize
-    requires { Admitted shape }
-    ensures { result ≡ file_length quadratic shape }
+pub fn file_length(grid: Grid) -> usize
+    ensures { result ≡ file_length quadratic grid.shape }
 {
-    table_start(shape) + 4 * (shape.tracers + 1) + 12
+    table_start(grid) + 4 * (grid.shape.tracers + 1) + 12
 }
 
 // The mark that a file ends with.

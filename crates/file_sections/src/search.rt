@@ -1,38 +1,42 @@
 // The search of a tracer's section of a file, on its bytes: a reader writes no number before every tracer has passed.
-ghost use Rattle.std.specs.Prelude.{◌≡◌, ◌*◌, length};
-ghost use Rattle.rules.specs.Field.{quadratic, part_length, sound, Admitted};
+ghost use Rattle.std.specs.Prelude.{◌≡◌, ◌+◌, ◌*◌, ◌≤◌, length};
+ghost use Rattle.rules.specs.Bytes.{number32};
+ghost use Rattle.rules.specs.Field.{quadratic, part_length, sound};
 ghost use Rattle.file_sections.specs.Numbers.{numbers_of};
 
-use field_elements::element::number_weight;
-use field_search::breaks;
+use field_layout::Grid;
+use field_search::Numbers;
 use file_numbers::Stored;
-use rules::Shape;
-use rules::element::NUMBERS;
 
-// A leaf: whether no remainder of a tracer's section is above 35 and the total is not above the limit. "The search by rows,
-// elements and numbers ends at the first break."
-pub fn tracer_sound(section: &[u8], shape: Shape) -> bool
-    requires admitted { Admitted shape }
-    requires section_len { length section.now ≡ 4 * part_length quadratic shape }
-    ensures { result ≡ sound quadratic shape (numbers_of section.now (part_length quadratic shape)) }
-{
-    let nx = shape.nx;
-    let ny = shape.ny;
-    let mut sum: u64 = 0;
-    let mut sound = true;
-    let mut start = 0;
-    'rows: for j in 0..ny {
-        'elements: for i in 0..nx {
-            'numbers: for v in 0..NUMBERS {
-                let x = u64::from(u32::read(&section[4 * (start + v)..]));
-                sum += number_weight(v) * x;
-                if breaks(v, x, sum) {
-                    sound = false;
-                    break 'rows;
-                }
-            }
-            start += NUMBERS;
-        }
+// A tracer's section: its numbers one after the other.
+#[derive(Clone, Copy)]
+pub struct Section<'a> {
+    pub bytes: &'a [u8],
+}
+
+impl Numbers for Section<'_> {
+    ghost use Rattle.std.specs.Prelude.{length, ◌/◌};
+    ghost use Rattle.file_sections.specs.Numbers.{numbers_of};
+
+    ghost numbers = { λ s. numbers_of s.bytes.now (length s.bytes.now / 4) };
+
+    fn number(&self, k: usize) -> u32 {
+        number(self.bytes, k)
     }
-    sound
+}
+
+// Number k of a section. A function of the slice: behind a field nothing says that a place in it fits.
+fn number(section: &[u8], k: usize) -> u32
+    requires { 4 * k + 4 ≤ length section.now }
+    ensures { result ≡ number32 section.now (4 * k) }
+{
+    u32::read(&section[4 * k..])
+}
+
+// A leaf: whether no remainder of a tracer's section is above 35 and the total is not above the limit.
+pub fn tracer_sound(section: &[u8], grid: Grid) -> bool
+    requires { length section.now ≡ 4 * part_length quadratic grid.shape }
+    ensures { result ≡ sound quadratic grid.shape (numbers_of section.now (part_length quadratic grid.shape)) }
+{
+    field_search::search(&Section { bytes: section }, grid).is_ok()
 }

@@ -8,14 +8,14 @@ use Rattle.file_layout.proofs.file_length.Goals as goal
 use Rattle.file_layout.proofs.file_length.Goals.{After-table_start}
 
 -- the file's length, by the table's start
-sum_is : (c : After-table_start) → c.table_start.result + 4 * (c.args.shape.tracers + 1) + 12 ≡ file_length quadratic c.args.shape
-sum_is c = omega (arith, c.table_start.ensures, length-is quadratic c.args.shape)
+sum_is : (c : After-table_start) → c.table_start.result + 4 * (c.args.grid.shape.tracers + 1) + 12 ≡ file_length quadratic c.args.grid.shape
+sum_is c = omega (arith, c.table_start.ensures, length-is quadratic c.args.grid.shape)
 
 pub overflow_add-result-2 : goal.overflow_add-result-2
-overflow_add-result-2 c = record { fits = omega (arith, sum_is (goal.at.overflow_add-result-2 c).After-table_start, length-le c.args.shape c.requires) }
+overflow_add-result-2 c = record { fits = omega (arith, sum_is (goal.at.overflow_add-result-2 c).After-table_start, length-le c.args.grid.shape c.args.grid.admitted) }
 
 pub overflow_add-result-3 : goal.overflow_add-result-3
-overflow_add-result-3 c = record { fits = omega (arith, sum_is (goal.at.overflow_add-result-3 c).After-table_start, length-le c.args.shape c.requires) }
+overflow_add-result-3 c = record { fits = omega (arith, sum_is (goal.at.overflow_add-result-3 c).After-table_start, length-le c.args.grid.shape c.args.grid.admitted) }
 
 pub returns : goal.returns
 returns c = sum_is (goal.at.returns c).After-table_start

@@ -4,4 +4,4 @@ use Rattle.file_layout.proofs.LayoutLaws.{table_is}
 use Rattle.file_layout.proofs.table_start.Goals as goal
 
 pub returns : goal.returns
-returns c = c.section_start.ensures ∙ sym (table_is quadratic c.args.shape)
+returns c = c.section_start.ensures ∙ sym (table_is quadratic c.args.grid.shape)
