@@ -23,8 +23,8 @@ shaped c = sym c.read_tail-tail.ensures ∙ ap answered c.in-Ok.is
 facts : (c : In-Ok) → Given c.args.file.now c.in-Ok.shape
 facts c = given c.args.file.now c.in-Ok.shape (shaped c)
 
-pub check-requires : goal.check-requires
-check-requires c = (facts (goal.at.check-requires c).In-Ok).sizes
+pub invariant_of-grid : goal.invariant_of-grid
+invariant_of-grid c = record { admitted = (facts (goal.at.invariant_of-grid c).In-Ok).sizes }
 
 -- every check is passed
 passed : (c : In_ok-check) → shape_reply c.in-Ok.shape c.args.file.now (length c.args.field.now) (length c.args.wind.now) ≡ accepted tt
@@ -34,10 +34,10 @@ fits : (c : In_ok-check) → Fitting c.in-Ok.shape c.args.file.now (length c.arg
 fits c = let a = c.args in fitting c.in-Ok.shape a.file.now (length a.field.now) (length a.wind.now) (passed c)
 
 pub read_wind-requires : goal.read_wind-requires
-read_wind-requires c = let h = fits (goal.at.read_wind-requires c).In_ok-check in record { admitted = (facts (goal.at.read_wind-requires c).In-Ok).sizes; file_len = h.long; shape_in_bounds = h.winds }
+read_wind-requires c = let h = fits (goal.at.read_wind-requires c).In_ok-check in record { file_len = h.long; shape_in_bounds = h.winds }
 
 pub read_tracers-requires : goal.read_tracers-requires
-read_tracers-requires c = let h = fits (goal.at.read_tracers-requires c).In_ok-check in record { admitted = (facts (goal.at.read_tracers-requires c).In-Ok).sizes; file_len = h.long; shape_in_bounds = h.fields }
+read_tracers-requires c = let h = fits (goal.at.read_tracers-requires c).In_ok-check in record { file_len = h.long; shape_in_bounds = h.fields }
 
 pub returns-in_err-check : goal.returns-in_err-check
 returns-in_err-check c =

@@ -8,4 +8,4 @@ use Rattle.file_reading.proofs.ReadLaws.{field_number}
 use Rattle.file_reading.proofs.read_tracers.Given as goal
 
 abbrev pub invariant-loop-s : goal.invariant-loop-s
-invariant-loop-s l = (l.s ≤ l.tracers) × (l.to ≡ l.s * l.n) × (length l.field ≡ length l.initial.field) × (l.field ≡ table l.to (field_number l.shape l.file) ++ drop l.to l.initial.field)
+invariant-loop-s l = (l.s ≤ l.tracers) × (l.to ≡ l.s * l.n) × (length l.field ≡ length l.initial.field) × (l.field ≡ table l.to (field_number l.grid.shape l.file) ++ drop l.to l.initial.field)

@@ -18,19 +18,19 @@ use Rattle.file_writing.proofs.write_parts.Goals as goal
 use Rattle.file_writing.proofs.write_parts.Goals.{After-file_length-end, After-write_all, After-write_tracers, After-write_table}
 
 pub overflow_add-tail-2 : goal.overflow_add-tail-2
-overflow_add-tail-2 c = record { fits = omega (arith, c.table_start-table.ensures, length-is quadratic c.args.shape, length-le c.args.shape c.requires.admitted) }
+overflow_add-tail-2 c = record { fits = omega (arith, c.table_start-table.ensures, length-is quadratic c.args.grid.shape, length-le c.args.grid.shape c.args.grid.admitted) }
 
 -- where the parts stand
 record Places (c : After-file_length-end) : Type 0 where
   first : c.section_start-winds.result ≡ 0
-  second : c.section_start-tracers.result ≡ 2 * faces c.args.shape
-  third : c.table_start-table.result ≡ 2 * faces c.args.shape + 4 * field_length quadratic c.args.shape
-  last : c.file_length-end.result ≡ c.table_start-table.result + 4 * (c.args.shape.tracers + 1) + 12
+  second : c.section_start-tracers.result ≡ 2 * faces c.args.grid.shape
+  third : c.table_start-table.result ≡ 2 * faces c.args.grid.shape + 4 * field_length quadratic c.args.grid.shape
+  last : c.file_length-end.result ≡ c.table_start-table.result + 4 * (c.args.grid.shape.tracers + 1) + 12
   room : c.file_length-end.result ≤ length c.args.file.now
 
 places : (c : After-file_length-end) → Places c
 places c =
-    let g = c.args.shape in
+    let g = c.args.grid.shape in
     record {
       first = c.section_start-winds.ensures ∙ wind-start quadratic g;
       second = c.section_start-tracers.ensures ∙ field-start quadratic g;
@@ -62,28 +62,28 @@ back a b y file = take a file ++ (y ++ drop (b - a) (drop a file))
 -- the file after each part
 after-winds : (c : After-write_all)
     → back c.section_start-winds.result c.section_start-tracers.result c.write_all.new.section c.args.file.now
-    ≡ with-winds c.args.shape c.args.field.now c.args.wind.now c.args.file.now c.requires.shape_in_bounds
+    ≡ with-winds c.args.grid.shape c.args.field.now c.args.wind.now c.args.file.now c.requires.shape_in_bounds
 after-winds c =
     let a = c.args in
     let s = c.section_start-winds in
     let t = c.section_start-tracers in
-    winds-made a.shape a.field.now a.wind.now a.file.now c.requires.shape_in_bounds s.result t.result c.write_all.new.section s.ensures t.ensures
+    winds-made a.grid.shape a.field.now a.wind.now a.file.now c.requires.shape_in_bounds s.result t.result c.write_all.new.section s.ensures t.ensures
     (c.write_all.ensures (pos 0) ∙ ap (λ b. overwrite 0 b (take (t.result - s.result) (drop s.result a.file.now))) (winds-front a.wind.now (omega (arith, c.faces-faces.ensures, c.requires.shape_in_bounds_3)) c.faces-faces.ensures))
 
 after-tracers : (c : After-write_tracers)
     → back c.section_start-winds.result c.section_start-tracers.result c.write_all.new.section c.args.file.now
-    ≡ with-winds c.args.shape c.args.field.now c.args.wind.now c.args.file.now c.requires.shape_in_bounds
-    → c.write_tracers.new.file ≡ with-tracers c.args.shape c.args.field.now c.args.wind.now c.args.file.now c.requires.shape_in_bounds
-after-tracers c e = c.write_tracers.ensures ∙ ap (overwrite (2 * faces c.args.shape) (field_bytes quadratic c.args.shape c.args.field.now)) e
+    ≡ with-winds c.args.grid.shape c.args.field.now c.args.wind.now c.args.file.now c.requires.shape_in_bounds
+    → c.write_tracers.new.file ≡ with-tracers c.args.grid.shape c.args.field.now c.args.wind.now c.args.file.now c.requires.shape_in_bounds
+after-tracers c e = c.write_tracers.ensures ∙ ap (overwrite (2 * faces c.args.grid.shape) (field_bytes quadratic c.args.grid.shape c.args.field.now)) e
 
 after_table : (c : After-write_table)
-    → c.write_tracers.new.file ≡ with-tracers c.args.shape c.args.field.now c.args.wind.now c.args.file.now c.requires.shape_in_bounds
-    → back c.table_start-table.result (c.table_start-table.result + 4 * (c.args.shape.tracers + 1)) c.write_table.new.table c.write_tracers.new.file
-    ≡ with-table c.args.shape c.args.field.now c.args.wind.now c.args.file.now c.requires.shape_in_bounds
+    → c.write_tracers.new.file ≡ with-tracers c.args.grid.shape c.args.field.now c.args.wind.now c.args.file.now c.requires.shape_in_bounds
+    → back c.table_start-table.result (c.table_start-table.result + 4 * (c.args.grid.shape.tracers + 1)) c.write_table.new.table c.write_tracers.new.file
+    ≡ with-table c.args.grid.shape c.args.field.now c.args.wind.now c.args.file.now c.requires.shape_in_bounds
 after_table c e =
     let a = c.args in
     let t = c.table_start-table in
-    table-made a.shape a.field.now a.wind.now a.file.now c.requires.shape_in_bounds t.result (t.result + 4 * (a.shape.tracers + 1)) c.write_table.new.table c.write_tracers.new.file t.ensures refl
+    table-made a.grid.shape a.field.now a.wind.now a.file.now c.requires.shape_in_bounds t.result (t.result + 4 * (a.grid.shape.tracers + 1)) c.write_table.new.table c.write_tracers.new.file t.ensures refl
     e c.write_table.ensures
 
 pub write_tracers-requires-clause-shape_in_bounds : goal.write_tracers-requires-clause-shape_in_bounds
@@ -91,8 +91,8 @@ write_tracers-requires-clause-shape_in_bounds c =
     let a = c.args in
     let h = c.requires.shape_in_bounds in
     let w = after-winds (goal.at.write_tracers-requires-clause-shape_in_bounds c).After-write_all in
-    let long = ap length w ∙ winds-long a.shape a.field.now a.wind.now a.file.now h in
-    omega (arith, long, h, table-start quadratic a.shape, length-is quadratic a.shape)
+    let long = ap length w ∙ winds-long a.grid.shape a.field.now a.wind.now a.file.now h in
+    omega (arith, long, h, table-start quadratic a.grid.shape, length-is quadratic a.grid.shape)
 
 pub slice_bounds-write_table-end : goal.slice_bounds-write_table-end
 slice_bounds-write_table-end c =
@@ -100,7 +100,7 @@ slice_bounds-write_table-end c =
     let at = goal.at.slice_bounds-write_table-end c in
     let p = places at.After-file_length-end in
     let t = after-tracers at.After-write_tracers (after-winds at.After-write_all) in
-    let long = ap length t ∙ tracers-long a.shape a.field.now a.wind.now a.file.now c.requires.shape_in_bounds in
+    let long = ap length t ∙ tracers-long a.grid.shape a.field.now a.wind.now a.file.now c.requires.shape_in_bounds in
     omega (arith, long)
 
 pub slice_bounds-write_tail-count : goal.slice_bounds-write_tail-count
@@ -114,10 +114,10 @@ write_tail-requires-clause-out_len c =
     let a = c.args in
     let at = goal.at.write_tail-requires-clause-out_len c in
     let p = places at.After-file_length-end in
-    let t = c.table_start-table.result + 4 * (a.shape.tracers + 1) in
+    let t = c.table_start-table.result + 4 * (a.grid.shape.tracers + 1) in
     let e = c.file_length-end.result in
     let made = after_table at.After-write_table (after-tracers at.After-write_tracers (after-winds at.After-write_all)) in
-    let long = ap length made ∙ table-long a.shape a.field.now a.wind.now a.file.now c.requires.shape_in_bounds in
+    let long = ap length made ∙ table-long a.grid.shape a.field.now a.wind.now a.file.now c.requires.shape_in_bounds in
     part-size 12 t (e - t) _ (omega arith) (omega (arith, long))
 
 pub returns : goal.returns
@@ -126,5 +126,5 @@ returns c =
     let at = goal.at.returns c in
     let t = c.table_start-table in
     let e = c.file_length-end in
-    tail-made a.shape a.field.now a.wind.now a.file.now c.requires.shape_in_bounds (t.result + 4 * (a.shape.tracers + 1)) e.result c.write_tail.new.out _
-    (ap (λ n. n + 4 * (a.shape.tracers + 1)) t.ensures) e.ensures (after_table at.After-write_table (after-tracers at.After-write_tracers (after-winds at.After-write_all))) c.write_tail.ensures
+    tail-made a.grid.shape a.field.now a.wind.now a.file.now c.requires.shape_in_bounds (t.result + 4 * (a.grid.shape.tracers + 1)) e.result c.write_tail.new.out _
+    (ap (λ n. n + 4 * (a.grid.shape.tracers + 1)) t.ensures) e.ensures (after_table at.After-write_table (after-tracers at.After-write_tracers (after-winds at.After-write_all))) c.write_tail.ensures

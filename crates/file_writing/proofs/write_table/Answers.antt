@@ -15,15 +15,15 @@ unfolding overwrite blocks
 loop-i-init c = search rules
 
 pub overflow_cast-offset : goal.overflow_cast-offset
-overflow_cast-offset c = record { fits = omega (arith, c.section_start-offset.ensures, section-le c.args.shape c.loop-i.i c.requires.admitted (omega arith)) }
+overflow_cast-offset c = record { fits = omega (arith, c.section_start-offset.ensures, section-le c.args.grid.shape c.loop-i.i c.args.grid.admitted (omega arith)) }
 
 pub loop-i-preserved : goal.loop-i-preserved
 loop-i-preserved c =
     let l = c.loop-i in
-    let x = section_start quadratic c.args.shape in
-    (omega arith, omega arith, write-at (4 * l.i) _ l.table _ c.write.ensures ∙ next-offset x c.args.table.now l.i c.section_start-offset.result l.table c.section_start-offset.ensures l.invariant.2 (omega (arith, c.requires.tracers_in_bounds)))
+    let x = section_start quadratic c.args.grid.shape in
+    (omega arith, omega arith, write-at (4 * l.i) _ l.table _ c.write.ensures ∙ next-offset x c.args.table.now l.i c.section_start-offset.result l.table c.section_start-offset.ensures l.invariant.2 (omega (arith, c.requires)))
 
 pub returns : goal.returns
 returns c =
-    let e : c.loop-i.i ≡ c.args.shape.tracers + 1 = omega arith in
+    let e : c.loop-i.i ≡ c.args.grid.shape.tracers + 1 = omega arith in
     rw e at c.loop-i.invariant.2

@@ -14,13 +14,13 @@ use Rattle.file_writing.proofs.write_tracers.Goals as goal
 use Rattle.file_writing.proofs.write_tracers.Goals.{In-loop-k}
 
 pub part_length-numbers-requires : goal.part_length-numbers-requires
-part_length-numbers-requires c = c.requires.admitted
+part_length-numbers-requires c = c.args.grid.admitted
 
 pub faces-start-requires : goal.faces-start-requires
-faces-start-requires c = c.requires.admitted
+faces-start-requires c = c.args.grid.admitted
 
 pub overflow_mul-start : goal.overflow_mul-start
-overflow_mul-start c = record { fits = omega (arith, c.faces-start.ensures, elements-le c.args.shape c.requires.admitted) }
+overflow_mul-start c = record { fits = omega (arith, c.faces-start.ensures, elements-le c.args.grid.shape c.args.grid.admitted) }
 
 pub loop-k-init : goal.loop-k-init
 unfolding blocks overwrite
@@ -28,11 +28,11 @@ loop-k-init c = let z : 0 * c.part_length-numbers.result ≡ 0 = zero-mul c.part
 
 -- the tracer of a turn ends within the field, and its section within the file
 within : (c : In-loop-k)
-    → (c.loop-k.from + c.part_length-numbers.result ≤ field_length quadratic c.args.shape) × (c.loop-k.from + c.part_length-numbers.result ≤ 327680)
+    → (c.loop-k.from + c.part_length-numbers.result ≤ field_length quadratic c.args.grid.shape) × (c.loop-k.from + c.part_length-numbers.result ≤ 327680)
 within c =
     let l = c.loop-k in
     let w = c.part_length-numbers in
-    ends c.args.shape c.args.field.now c.requires.shape_in_bounds_2 l.k l.from w.result c.loop-k-test.true l.invariant.1 w.ensures c.requires.admitted
+    ends c.args.grid.shape c.args.field.now c.requires.shape_in_bounds_2 l.k l.from w.result c.loop-k-test.true l.invariant.1 w.ensures c.args.grid.admitted
 
 section-ends : (c : In-loop-k)
     → (c.loop-k.start + 4 * c.part_length-numbers.result ≤ length c.args.file.now) × (c.loop-k.start + 4 * c.part_length-numbers.result ≤ 2000000)
@@ -40,7 +40,7 @@ section-ends c =
     let l = c.loop-k in
     let f = c.faces-start in
     let w = within c in
-    (omega (arith, w, l.invariant.2, l.invariant.1, f.ensures, c.requires.shape_in_bounds), omega (arith, w, l.invariant.2, l.invariant.1, f.ensures, elements-le c.args.shape c.requires.admitted))
+    (omega (arith, w, l.invariant.2, l.invariant.1, f.ensures, c.requires.shape_in_bounds), omega (arith, w, l.invariant.2, l.invariant.1, f.ensures, elements-le c.args.grid.shape c.args.grid.admitted))
 
 pub overflow_mul-end : goal.overflow_mul-end
 overflow_mul-end c = record { fits = omega (arith, section-ends (goal.at.overflow_mul-end c).In-loop-k) }
@@ -83,7 +83,7 @@ shape_of-file c = c.loop-k.invariant.3
 
 pub returns : goal.returns
 returns c =
-    let g = c.args.shape in
+    let g = c.args.grid.shape in
     let l = c.loop-k in
     let w = c.part_length-numbers in
     let n : l.k * w.result ≡ field_length quadratic g = (λ i. (let e : l.k ≡ g.tracers = omega arith in e) i * w.ensures i) ∙ sym (field_is g) in

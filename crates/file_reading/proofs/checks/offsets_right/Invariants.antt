@@ -7,4 +7,4 @@ use Rattle.file_reading.proofs.ReadLaws.{offset}
 use Rattle.file_reading.proofs.checks.offsets_right.Given as goal
 
 abbrev pub invariant-loop-i : goal.invariant-loop-i
-invariant-loop-i l = (l.i ≤ l.count) × (all l.i (offset l.shape l.file) ≡ true)
+invariant-loop-i l = (l.i ≤ l.count) × (all l.i (offset l.grid.shape l.file) ≡ true)

@@ -8,4 +8,4 @@ use Rattle.rules.specs.FieldFile.{file_field}
 use Rattle.file_reading.proofs.checks.tracers_sound.Given as goal
 
 abbrev pub invariant-loop-s : goal.invariant-loop-s
-invariant-loop-s l = (l.s ≤ l.tracers) × (all l.s (λ t. sound quadratic l.shape (part quadratic l.shape t (file_field quadratic l.shape l.file))) ≡ true)
+invariant-loop-s l = (l.s ≤ l.tracers) × (all l.s (λ t. sound quadratic l.grid.shape (part quadratic l.grid.shape t (file_field quadratic l.grid.shape l.file))) ≡ true)

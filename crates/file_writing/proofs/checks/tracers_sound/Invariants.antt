@@ -7,4 +7,4 @@ use Rattle.rules.specs.Field.{quadratic, part, sound}
 use Rattle.file_writing.proofs.checks.tracers_sound.Given as goal
 
 abbrev pub invariant-loop-s : goal.invariant-loop-s
-invariant-loop-s l = (l.s ≤ l.tracers) × (l.start ≡ l.s * l.length) × (all l.s (λ k. sound quadratic l.shape (part quadratic l.shape k l.field)) ≡ true)
+invariant-loop-s l = (l.s ≤ l.tracers) × (l.start ≡ l.s * l.length) × (all l.s (λ k. sound quadratic l.grid.shape (part quadratic l.grid.shape k l.field)) ≡ true)
