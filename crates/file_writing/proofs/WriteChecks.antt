@@ -1,5 +1,5 @@
 -- The checks of file writing: the answer, by the tests.
-use mathlib.Core.Path.{◌≡◌}
+use mathlib.Core.Path.{◌≡◌, subst}
 use mathlib.Core.Bool.{Bool, true, false, ◌&&◌}
 use mathlib.Core.List.{List}
 use Prim.Native.Nat.{ℕ, ◌≤◌}
@@ -8,10 +8,10 @@ use lib.IntN.{ℤ}
 use lib.ListN.{length}
 use Rattle.whole.proofs.Cases.{both_yes}
 use Rattle.rules.specs.declared.Shape.{Shape}
-use Rattle.rules.specs.Answers.{accepted, refused, answer}
+use Rattle.rules.specs.Answers.{Answer, accepted, refused, answer}
 use Rattle.rules.specs.Field.{quadratic, admitted, faces, field_length}
 use Rattle.rules.specs.Calls.{wind_sound}
-use Rattle.rules.specs.FieldFile.{file_length, field_sound, write_reply}
+use Rattle.rules.specs.FieldFile.{file_length, field_sound, write_reply, write_file}
 
 module _ (g : Shape) (field : List ℕ) (wind : List ℤ) (file : List ℕ) where
   -- the buffers are long enough
@@ -51,3 +51,8 @@ module _ (g : Shape) (field : List ℕ) (wind : List ℤ) (file : List ℕ) wher
         pub write-passed : field_sound quadratic g field ≡ true → write_reply quadratic g field wind file ≡ accepted (file_length quadratic g)
         unfolding write_reply answer
         write-passed t = rw (a, e, w, t)
+
+-- what a writing on the grid of a shape gives is what it gives on the shape
+pub on_shape : {a : Answer ℕ} {new : List ℕ} {g h : Shape} (field : List ℕ) (wind : List ℤ) (file : List ℕ) → g ≡ h
+    → (a ≡ write_reply quadratic g field wind file) × (new ≡ write_file quadratic g field wind file) → (a ≡ write_reply quadratic h field wind file) × (new ≡ write_file quadratic h field wind file)
+on_shape {a} {new} field wind file e p = subst (λ k. (a ≡ write_reply quadratic k field wind file) × (new ≡ write_file quadratic k field wind file)) e p

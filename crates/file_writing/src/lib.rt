@@ -52,7 +52,12 @@ fn write_tail(out: &mut [u8], grid: Grid)
     requires { length out.old ≡ 12 }
     ensures { out.new ≡ tail quadratic grid.shape }
 {
-    out[..4].copy_from_slice(&[grid.shape.nx as u8, grid.shape.ny as u8, grid.shape.tracers as u8, 0]);
+    out[..4].copy_from_slice(&[
+        grid.shape.nx as u8,
+        grid.shape.ny as u8,
+        grid.shape.tracers as u8,
+        0,
+    ]);
     let table = file_layout::table_start(grid) as u32;
     table.write(&mut out[4..]);
     out[8..].copy_from_slice(&MARK);

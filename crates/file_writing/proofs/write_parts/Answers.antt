@@ -109,10 +109,10 @@ slice_bounds-write_tail-count c = let p = places (goal.at.slice_bounds-write_tai
 pub slice_bounds-write_tail-start : goal.slice_bounds-write_tail-start
 slice_bounds-write_tail-start c = let p = places (goal.at.slice_bounds-write_tail-start c).After-file_length-end in omega arith
 
-pub write_tail-requires-clause-out_len : goal.write_tail-requires-clause-out_len
-write_tail-requires-clause-out_len c =
+pub write_tail-requires : goal.write_tail-requires
+write_tail-requires c =
     let a = c.args in
-    let at = goal.at.write_tail-requires-clause-out_len c in
+    let at = goal.at.write_tail-requires c in
     let p = places at.After-file_length-end in
     let t = c.table_start-table.result + 4 * (a.grid.shape.tracers + 1) in
     let e = c.file_length-end.result in

@@ -13,12 +13,6 @@ use Rattle.file_writing.proofs.WritingLaws.{ends, written-length, next-tracer}
 use Rattle.file_writing.proofs.write_tracers.Goals as goal
 use Rattle.file_writing.proofs.write_tracers.Goals.{In-loop-k}
 
-pub part_length-numbers-requires : goal.part_length-numbers-requires
-part_length-numbers-requires c = c.args.grid.admitted
-
-pub faces-start-requires : goal.faces-start-requires
-faces-start-requires c = c.args.grid.admitted
-
 pub overflow_mul-start : goal.overflow_mul-start
 overflow_mul-start c = record { fits = omega (arith, c.faces-start.ensures, elements-le c.args.grid.shape c.args.grid.admitted) }
 

@@ -2,60 +2,46 @@
 use mathlib.Core.Path.{◌≡◌, sym, ap, ◌∙◌}
 use mathlib.Core.Bool.{true}
 use Rattle.rules.specs.Answers.{accepted}
-use Rattle.rules.specs.Field.{admitted, Admitted}
+use Rattle.rules.specs.Field.{admitted}
 use Rattle.rules.specs.Calls.{wind_sound}
-use Rattle.rules.proofs.ShapeLaws.{ranges}
-use Rattle.file_writing.proofs.WriteChecks.{enough, rooms, write-2, write-4, write-5, write-6, write-passed}
+use Rattle.field_layout.proofs.PlaceLaws.{is-admitted}
+use Rattle.file_writing.proofs.WriteChecks.{enough, rooms, write-4, write-5, write-6, write-passed}
 use Rattle.file_writing.proofs.checks.check.Goals as goal
-use Rattle.file_writing.proofs.checks.check.Goals.{Else-not-admitted, Else-not-lent_enough, Else-not-winds_sound}
+use Rattle.file_writing.proofs.checks.check.Goals.{Else-not-lent_enough, Else-not-winds_sound, Start}
 
-pub returns-then-not-admitted : goal.returns-then-not-admitted
-returns-then-not-admitted c =
-    let a = c.args in
-    sym (write-2 a.grid.shape a.field.now a.wind.now a.file.now (sym c.admitted.ensures ∙ c.if-not-admitted.true))
-
--- what each passed test says
-shape_is : (c : Else-not-admitted) → admitted c.args.grid.shape ≡ true
-shape_is c = sym c.admitted.ensures ∙ c.if-not-admitted.false
-
-small : (c : Else-not-admitted) → Admitted c.args.grid.shape
-small c = (ranges c.args.grid.shape (rw (shape_is c) tt))
-
-pub lent_enough-requires : goal.lent_enough-requires
-lent_enough-requires c = small (goal.at.lent_enough-requires c).Else-not-admitted
+-- the shape of a grid passes its test
+shape_is : (c : Start) → admitted c.args.grid.shape ≡ true
+shape_is c = is-admitted c.args.grid.shape c.args.grid.admitted
 
 pub returns-then-not-lent_enough : goal.returns-then-not-lent_enough
 returns-then-not-lent_enough c =
     let a = c.args in
-    sym (write-4 a.grid.shape a.field.now a.wind.now a.file.now (shape_is (goal.at.returns-then-not-lent_enough c).Else-not-admitted) (sym c.lent_enough.ensures ∙ c.if-not-lent_enough.true))
+    sym (write-4 a.grid.shape a.field.now a.wind.now a.file.now (shape_is (goal.at.returns-then-not-lent_enough c).Start) (sym c.lent_enough.ensures ∙ c.if-not-lent_enough.true))
 
 enough-is : (c : Else-not-lent_enough) → enough c.args.grid.shape c.args.field.now c.args.wind.now c.args.file.now ≡ true
 enough-is c = sym c.lent_enough.ensures ∙ c.if-not-lent_enough.false
 
 pub winds_sound-requires : goal.winds_sound-requires
-winds_sound-requires c = let a = c.args in record { shape_in_bounds = (rooms a.grid.shape a.field.now a.wind.now a.file.now (enough-is (goal.at.winds_sound-requires c).Else-not-lent_enough)).wind-room }
+winds_sound-requires c = let a = c.args in (rooms a.grid.shape a.field.now a.wind.now a.file.now (enough-is (goal.at.winds_sound-requires c).Else-not-lent_enough)).wind-room
 
 pub returns-then-not-winds_sound : goal.returns-then-not-winds_sound
 returns-then-not-winds_sound c =
     let a = c.args in
-    sym (write-5 a.grid.shape a.field.now a.wind.now a.file.now (shape_is (goal.at.returns-then-not-winds_sound c).Else-not-admitted) (enough-is (goal.at.returns-then-not-winds_sound c).Else-not-lent_enough) (sym c.winds_sound.ensures ∙ c.if-not-winds_sound.true))
+    sym (write-5 a.grid.shape a.field.now a.wind.now a.file.now (shape_is (goal.at.returns-then-not-winds_sound c).Start) (enough-is (goal.at.returns-then-not-winds_sound c).Else-not-lent_enough) (sym c.winds_sound.ensures ∙ c.if-not-winds_sound.true))
 
 winds-are : (c : Else-not-winds_sound) → wind_sound c.args.grid.shape c.args.wind.now ≡ true
 winds-are c = sym c.winds_sound.ensures ∙ c.if-not-winds_sound.false
 
 pub tracers_sound-requires : goal.tracers_sound-requires
-tracers_sound-requires c = let a = c.args in record { shape_in_bounds = (rooms a.grid.shape a.field.now a.wind.now a.file.now (enough-is (goal.at.tracers_sound-requires c).Else-not-lent_enough)).field_room }
+tracers_sound-requires c = let a = c.args in (rooms a.grid.shape a.field.now a.wind.now a.file.now (enough-is (goal.at.tracers_sound-requires c).Else-not-lent_enough)).field_room
 
 pub returns-then-not-tracers_sound : goal.returns-then-not-tracers_sound
 returns-then-not-tracers_sound c =
     let a = c.args in
-    sym (write-6 a.grid.shape a.field.now a.wind.now a.file.now (shape_is (goal.at.returns-then-not-tracers_sound c).Else-not-admitted) (enough-is (goal.at.returns-then-not-tracers_sound c).Else-not-lent_enough) (winds-are (goal.at.returns-then-not-tracers_sound c).Else-not-winds_sound) (sym c.tracers_sound.ensures ∙ c.if-not-tracers_sound.true))
-
-pub file_length-requires : goal.file_length-requires
-file_length-requires c = small (goal.at.file_length-requires c).Else-not-admitted
+    sym (write-6 a.grid.shape a.field.now a.wind.now a.file.now (shape_is (goal.at.returns-then-not-tracers_sound c).Start) (enough-is (goal.at.returns-then-not-tracers_sound c).Else-not-lent_enough) (winds-are (goal.at.returns-then-not-tracers_sound c).Else-not-winds_sound) (sym c.tracers_sound.ensures ∙ c.if-not-tracers_sound.true))
 
 pub returns : goal.returns
 returns c =
     let a = c.args in
     ap accepted c.file_length.ensures
-    ∙ sym (write-passed a.grid.shape a.field.now a.wind.now a.file.now (shape_is (goal.at.returns c).Else-not-admitted) (enough-is (goal.at.returns c).Else-not-lent_enough) (winds-are (goal.at.returns c).Else-not-winds_sound) (sym c.tracers_sound.ensures ∙ c.if-not-tracers_sound.false))
+    ∙ sym (write-passed a.grid.shape a.field.now a.wind.now a.file.now (shape_is (goal.at.returns c).Start) (enough-is (goal.at.returns c).Else-not-lent_enough) (winds-are (goal.at.returns c).Else-not-winds_sound) (sym c.tracers_sound.ensures ∙ c.if-not-tracers_sound.false))

@@ -11,9 +11,6 @@ use Rattle.file_writing.proofs.WritingLaws.{ends, lent_length, found-sound, foun
 use Rattle.file_writing.proofs.checks.tracers_sound.Goals as goal
 use Rattle.file_writing.proofs.checks.tracers_sound.Goals.{In-loop-s}
 
-pub part_length-length-requires : goal.part_length-length-requires
-part_length-length-requires c = c.args.grid.admitted
-
 pub loop-s-init : goal.loop-s-init
 unfolding all
 loop-s-init c = (omega arith, sym (zero-mul _), refl)
@@ -37,7 +34,7 @@ slice_bounds-tracer_total-end c = omega (arith, within (goal.at.slice_bounds-tra
 pub tracer_total-requires : goal.tracer_total-requires
 tracer_total-requires c =
     let l = c.loop-s in
-    record { part_len = lent_length c.args.grid.shape c.args.field.now c.requires l.s l.start c.part_length-length.result c.loop-s-test.true l.invariant.1 c.part_length-length.ensures }
+    lent_length c.args.grid.shape c.args.field.now c.requires l.s l.start c.part_length-length.result c.loop-s-test.true l.invariant.1 c.part_length-length.ensures
 
 pub returns-then-is_err : goal.returns-then-is_err
 unfolding field_sound

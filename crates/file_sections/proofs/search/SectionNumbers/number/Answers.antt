@@ -1,4 +1,4 @@
-use Rattle.std.proofs.Common.{◌≡◌, ◌∙◌, ◌+◌, ◌*◌, ◌/◌, ◌<◌, ◌≤◌, length, arith}
+use Rattle.std.proofs.Common.{◌∙◌, ◌*◌, ◌/◌, ◌<◌, length, arith}
 use Rattle.whole.proofs.TableLaws.{length-table}
 use Rattle.rules.specs.Bytes.{number32}
 use Rattle.file_sections.specs.Numbers.{numbers_of}
