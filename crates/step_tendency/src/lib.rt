@@ -46,19 +46,19 @@ struct Line {
 // The three lines that go one way: line b starts at step b and goes on by stride. The upwind values of the lines' first ends stand
 // from place side on, those of their last ends three places further.
 #[derive(Clone, Copy)]
-struct Way {
+struct LinesOneWay {
     side: usize,
     step: usize,
     stride: usize,
 }
 
-const EASTWARD: Way = Way {
+const EASTWARD: LinesOneWay = LinesOneWay {
     side: 0,
     step: SIDE,
     stride: 1,
 };
 
-const NORTHWARD: Way = Way {
+const NORTHWARD: LinesOneWay = LinesOneWay {
     side: 2 * SIDE,
     step: 1,
     stride: SIDE,
@@ -118,7 +118,7 @@ fn line_node(
     v: &[i64; NODES],
     winds: Ends,
     u: &[i64; UPWIND_VALUES],
-    way: Way,
+    way: LinesOneWay,
     k: usize,
 ) -> i64
     requires c_value { c.now ≡ table 3 (weighed_wind winds.first winds.last) }
@@ -143,7 +143,7 @@ fn line_node(
 }
 
 // The same at every node.
-fn lines(v: &[i64; NODES], winds: Ends, u: &[i64; UPWIND_VALUES], way: Way) -> [i64; NODES]
+fn lines(v: &[i64; NODES], winds: Ends, u: &[i64; UPWIND_VALUES], way: LinesOneWay) -> [i64; NODES]
     requires all_within { AllWithin stage_size v.now }
     requires within { Within 1024 winds.first }
     requires within_2 { Within 1024 winds.last }
