@@ -7,6 +7,7 @@ ghost use Rattle.rules.specs.Answers.{accepted, answer, answers};
 ghost use Rattle.rules.specs.Calls.{WindGives, from_records};
 ghost use Rattle.rules.specs.WindRecords.{east_wind, north_wind, all_record_checks};
 
+use field_layout::Grid;
 use rules::{Refusal, Shape};
 
 // Whether the records of n elements pass, with no byte left over.
@@ -46,13 +47,11 @@ fn lay(wind: &mut [i16], records: &[u8], n: usize)
 pub fn import(wind: &mut [i16], records: &[u8], shape: Shape) -> Result<(), Refusal>
     ensures { WindGives shape (from_records records.now) wind.old (answers result) wind.new }
 {
-    if !field_layout::admitted(shape) {
-        return Err(Refusal::BadShape);
-    }
-    if wind.len() < field_layout::faces(shape) {
+    let grid = Grid::try_from(shape)?;
+    if wind.len() < grid.faces() {
         return Err(Refusal::ShortBuffer);
     }
-    let n = field_layout::elements(shape);
+    let n = grid.elements();
     check(records, n)?;
     lay(wind, records, n);
     Ok(())
