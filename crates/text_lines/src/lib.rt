@@ -1,15 +1,16 @@
 // The lines that the program prints, each added to a text.
-// Every function here is a leaf: the text has room for the longest line, and the shape is admitted where it is asked for. A place or a count
-// becomes a u64 by `as`, since std has no `From` for it.
+// Every function here is a leaf: the text has room for the longest line. A place or a count becomes a u64 by `as`, since std has no `From`
+// for it.
 // `grid_line`, `refused_line` and `tracer_lines` are what the program calls.
 #![tactic(auto)]
 
 ghost use Rattle.std.specs.Prelude.{◌≡◌, ◌+◌, ◌*◌, ◌≤◌, ◌<◌, length};
-ghost use Rattle.rules.specs.Field.{faces, Admitted};
+ghost use Rattle.rules.specs.Field.{faces};
 ghost use Rattle.rules.specs.Grid.{face_index};
 ghost use Rattle.rules.specs.Program.{way_word, grid_line, face_line, total_line, refused_line, face_row, face_lines, tracer_lines};
 ghost use Rattle.text.specs.Adds.{Adds, HasRoom};
 
+use field_layout::Grid;
 use rules::{Shape, Way};
 use text::Text;
 
@@ -80,58 +81,59 @@ fn total_line(text: &mut Text, tracer: usize, total: u64)
 #[derive(Clone, Copy)]
 pub(crate) struct TracerReport<'a> {
     report: &'a [i32],
-    shape: Shape,
+    grid: Grid,
     tracer: usize,
-    ghost admitted: { Admitted shape },
-    ghost complete: { faces shape ≤ length report.now },
+    ghost complete: { faces grid.shape ≤ length report.now },
 }
 
 impl TracerReport<'_> {
     // Where the first face of row j that looks one way stands in the report.
     fn first_face(&self, way: Way, j: usize) -> usize
-        requires { j < self.now.shape.ny }
-        ensures { result ≡ face_index self.now.shape way 0 j }
+        requires { j < self.now.grid.shape.ny }
+        ensures { result ≡ face_index self.now.grid.shape way 0 j }
     {
-        let e = j * self.shape.nx;
+        let e = j * self.grid.shape.nx;
         match way {
             Way::East => e,
-            Way::North => self.shape.nx * self.shape.ny + e,
+            Way::North => self.grid.elements() + e,
         }
     }
 
     // The faces of row j that look one way.
     fn face_row(&self, text: &mut Text, way: Way, j: usize)
-        requires j_lt_ny { j < self.now.shape.ny }
-        requires room { HasRoom (self.now.shape.nx * 96) text.old }
-        ensures { Adds (self.now.shape.nx * 96) (face_row self.now.shape self.now.tracer way self.now.report.now j) text.old text.new }
+        requires j_lt_ny { j < self.now.grid.shape.ny }
+        requires room { HasRoom (self.now.grid.shape.nx * 96) text.old }
+        ensures { Adds (self.now.grid.shape.nx * 96) (face_row self.now.grid.shape self.now.tracer way self.now.report.now j) text.old text.new }
     {
         let first = self.first_face(way, j);
-        for (i, &flux) in self.report[first..first + self.shape.nx].iter().enumerate() {
+        for (i, &flux) in self.report[first..first + self.grid.shape.nx]
+            .iter()
+            .enumerate()
+        {
             face_line(text, self.tracer, way, i, j, flux);
         }
     }
 
     // All faces that look one way.
     fn face_lines(&self, text: &mut Text, way: Way)
-        requires { HasRoom (self.now.shape.ny * (self.now.shape.nx * 96)) text.old }
-        ensures { Adds (self.now.shape.ny * (self.now.shape.nx * 96)) (face_lines self.now.shape self.now.tracer way self.now.report.now) text.old text.new }
+        requires { HasRoom (self.now.grid.shape.ny * (self.now.grid.shape.nx * 96)) text.old }
+        ensures { Adds (self.now.grid.shape.ny * (self.now.grid.shape.nx * 96)) (face_lines self.now.grid.shape self.now.tracer way self.now.report.now) text.old text.new }
     {
-        for j in 0..self.shape.ny {
+        for j in 0..self.grid.shape.ny {
             self.face_row(text, way, j);
         }
     }
 }
 
 // What is printed of a tracer after its step: its east faces, its north faces, and its total.
-pub fn tracer_lines(text: &mut Text, shape: Shape, tracer: usize, report: &[i32], total: u64)
-    requires admitted { Admitted shape }
-    requires shape_in_bounds { faces shape ≤ length report.now }
-    requires room { HasRoom (2 * (shape.ny * (shape.nx * 96)) + 48) text.old }
-    ensures { Adds (2 * (shape.ny * (shape.nx * 96)) + 48) (tracer_lines shape tracer report.now total) text.old text.new }
+pub fn tracer_lines(text: &mut Text, grid: Grid, tracer: usize, report: &[i32], total: u64)
+    requires shape_in_bounds { faces grid.shape ≤ length report.now }
+    requires room { HasRoom (2 * (grid.shape.ny * (grid.shape.nx * 96)) + 48) text.old }
+    ensures { Adds (2 * (grid.shape.ny * (grid.shape.nx * 96)) + 48) (tracer_lines grid.shape tracer report.now total) text.old text.new }
 {
     let faces = TracerReport {
         report,
-        shape,
+        grid,
         tracer,
     };
     faces.face_lines(text, Way::East);

@@ -10,15 +10,15 @@ use Rattle.text_lines.proofs.TracerReport.face_row.Goals as goal
 use Rattle.text_lines.proofs.TracerReport.face_row.Goals.{After-first_face-first}
 
 -- the row has as many fluxes as the grid has columns
-long : (c : After-first_face-first) → let p = c.args.self.now in length (row p.shape c.args.way p.report.now c.args.j c.first_face-first.result c.first_face-first.ensures) ≡ p.shape.nx
-long c = let p = c.args.self.now in row-long p.shape c.args.way p.report.now c.args.j c.first_face-first.result c.first_face-first.ensures p.admitted c.requires.j_lt_ny p.complete
+long : (c : After-first_face-first) → let p = c.args.self.now in length (row p.grid.shape c.args.way p.report.now c.args.j c.first_face-first.result c.first_face-first.ensures) ≡ p.grid.shape.nx
+long c = let p = c.args.self.now in row-long p.grid.shape c.args.way p.report.now c.args.j c.first_face-first.result c.first_face-first.ensures p.grid.admitted c.requires.j_lt_ny p.complete
 
 pub loop-i-init : goal.loop-i-init
 loop-i-init c = blocks-none 96 _ c.args.text.now (omega (arith, c.requires.room))
 
 pub face_line-requires : goal.face_line-requires
 face_line-requires c =
-    block_room 96 _ c.loop-i.invariant c.args.self.now.shape.nx (omega (arith, c.loop-i-test.true, long (goal.at.face_line-requires c).After-first_face-first)) c.requires.room
+    block_room 96 _ c.loop-i.invariant c.args.self.now.grid.shape.nx (omega (arith, c.loop-i-test.true, long (goal.at.face_line-requires c).After-first_face-first)) c.requires.room
 
 pub loop-i-preserved : goal.loop-i-preserved
 loop-i-preserved c =
@@ -29,5 +29,5 @@ pub returns : goal.returns
 returns c =
     let p = c.args.self.now in
     let l = c.loop-i in
-    let e : l.i ≡ p.shape.nx = omega (arith, l.auto.i-end, c.loop-i-test.false, long (goal.at.returns c).After-first_face-first) in
-    same_bytes (row_is p.shape c.args.way p.report.now c.args.j c.first_face-first.result c.first_face-first.ensures p.tracer) (rw e at l.invariant)
+    let e : l.i ≡ p.grid.shape.nx = omega (arith, l.auto.i-end, c.loop-i-test.false, long (goal.at.returns c).After-first_face-first) in
+    same_bytes (row_is p.grid.shape c.args.way p.report.now c.args.j c.first_face-first.result c.first_face-first.ensures p.tracer) (rw e at l.invariant)
