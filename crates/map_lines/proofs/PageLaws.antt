@@ -18,9 +18,9 @@ pub row-there : (g : Shape) (l : BlockLine) {j : ℕ} → l ≡ Row j → There 
 row-there g l e t = subst (There g) e t
 
 -- the number of a line has ten digits at most
-pub numbers-small : (p : TracerPage) (l : BlockLine) → There p.shape l → (i : ℕ) → i < p.shape.nx → numbers p l i < 10 ^ 10
-numbers-small p Header t i c = omega (arith, p.printable.admits.nx-small)
-numbers-small p (Row j) t i c = row_small quadratic p.shape (page_part p) p.printable.admits p.printable.small j t i c
+pub numbers-small : (p : TracerPage) (l : BlockLine) → There p.grid.shape l → (i : ℕ) → i < p.grid.shape.nx → numbers p l i < 10 ^ 10
+numbers-small p Header t i c = omega (arith, p.grid.admitted.nx-small)
+numbers-small p (Row j) t i c = row_small quadratic p.grid.shape (page_part p) p.grid.admitted p.printable.small j t i c
 
 -- a page is its blocks and the line of the sum
 pub page-is : (g : Shape) → block_count g * ((g.ny + 1) * 74) + 74 ≡ page_length g

@@ -1,14 +1,13 @@
 -- What the functions that add a page's lines ask for, and the text of a line by its case.
 use Rattle.std.specs.Prelude.{List, ℕ, ◌≤◌, ◌<◌, length}
 use Rattle.rules.specs.declared.Shape.{Shape}
-use Rattle.rules.specs.Field.{quadratic, element, field_length, part, mass, total, limit, Admitted}
+use Rattle.rules.specs.Field.{quadratic, element, field_length, part, mass, total, limit}
 use Rattle.rules.specs.Text.{decimal, blanks, right_aligned}
 use Rattle.map_lines.specs.declared.BlockLine.{BlockLine}
 use Rattle.map_lines.specs.declared.BlockLine.TheVariants.{Header, Row}
 
 -- a tracer that is there, in a field that has room, with a total of at most the limit: every number of its page fits its width
 pub record Printable (g : Shape) (s : ℕ) (field : List ℕ) : Type 0 where
-  pub admits : Admitted g
   pub tracer : s < g.tracers
   pub room : field_length quadratic g ≤ length field
   pub small : total quadratic g (part quadratic g s field) ≤ limit

@@ -7,8 +7,8 @@ use Rattle.map_lines.specs.PageLines.{line_number}
 
 -- the tracer's part of the field
 abbrev pub page_part : TracerPage → List ℕ
-page_part p = part quadratic p.shape p.tracer p.field.now
+page_part p = part quadratic p.grid.shape p.tracer p.field.now
 
 -- the number of a line in column i
 abbrev pub numbers : TracerPage → BlockLine → ℕ → ℕ
-numbers p line i = line_number p.shape (page_part p) line i
+numbers p line i = line_number p.grid.shape (page_part p) line i

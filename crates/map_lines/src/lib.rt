@@ -1,15 +1,15 @@
-// The page of a map, as a text: its blocks, and the line of the sum. Each function is a leaf, for an admitted shape; those that add to a text
-// ask for room and for a tracer that can be printed. `page` and `page_length` are what the call uses.
+// The page of a map, as a text: its blocks, and the line of the sum. Each function is a leaf; those that add to a text ask for room and for a
+// tracer that can be printed. `page` and `page_length` are what the call uses.
 #![tactic(auto)]
 
 ghost use Rattle.std.specs.Prelude.{◌≡◌, ◌+◌, ◌*◌, ◌≤◌, ◌<◌, length};
-ghost use Rattle.rules.specs.Field.{quadratic, part, total, limit, Admitted};
+ghost use Rattle.rules.specs.Field.{quadratic, part, total, limit};
 ghost use Rattle.rules.specs.Map.{block_count, column_text, block_line, block_text, sum_line, page_text, page_length};
 ghost use Rattle.text.specs.Added.{Added};
 ghost use Rattle.text.specs.Adds.{Adds, HasRoom};
 ghost use Rattle.map_lines.specs.PageLines.{Printable, There, line_first, line_number};
 
-use rules::Shape;
+use field_layout::Grid;
 use text::Text;
 
 // A block's columns, the width of each, that of what comes before them, and the bytes of a line with its newline.
@@ -29,28 +29,26 @@ pub(crate) enum BlockLine {
 }
 
 // As many blocks as the columns need.
-fn block_count(shape: Shape) -> usize
-    requires { Admitted shape }
-    ensures { result ≡ block_count shape }
+fn block_count(grid: Grid) -> usize
+    ensures { result ≡ block_count grid.shape }
 {
-    shape.nx.div_ceil(COLUMNS)
+    grid.shape.nx.div_ceil(COLUMNS)
 }
 
 // The bytes of a page.
-pub fn page_length(shape: Shape) -> usize
-    requires { Admitted shape }
-    ensures { result ≡ page_length shape }
+pub fn page_length(grid: Grid) -> usize
+    ensures { result ≡ page_length grid.shape }
 {
-    (block_count(shape) * (shape.ny + 1) + 1) * LINE
+    (block_count(grid) * (grid.shape.ny + 1) + 1) * LINE
 }
 
 // The page of one tracer: every number of it fits its width.
 #[derive(Clone, Copy)]
 pub(crate) struct TracerPage<'a> {
     field: &'a [u32],
-    shape: Shape,
+    grid: Grid,
     tracer: usize,
-    ghost printable: { Printable shape tracer field.now },
+    ghost printable: { Printable grid.shape tracer field.now },
 }
 
 impl TracerPage<'_> {
@@ -58,7 +56,7 @@ impl TracerPage<'_> {
 
     // What comes before the columns of a line.
     fn first(&self, text: &mut Text, line: BlockLine)
-        requires there { There self.now.shape line }
+        requires there { There self.now.grid.shape line }
         requires room { HasRoom 3 text.old }
         ensures { Adds 3 (line_first line) text.old text.new }
     {
@@ -70,23 +68,23 @@ impl TracerPage<'_> {
 
     // A line's number in column i.
     fn number(&self, line: BlockLine, i: usize) -> u64
-        requires there { There self.now.shape line }
-        requires i_lt_nx { i < self.now.shape.nx }
+        requires there { There self.now.grid.shape line }
+        requires i_lt_nx { i < self.now.grid.shape.nx }
         ensures { result ≡ numbers self.now line i }
     {
         match line {
             BlockLine::Header => i as u64,
-            BlockLine::Row(j) => field::element_mass(self.field, self.shape, self.tracer, i, j),
+            BlockLine::Row(j) => field::element_mass(self.field, self.grid, self.tracer, i, j),
         }
     }
 
     // Column i of a line: its number, or blanks where the grid has no such column.
     fn column(&self, text: &mut Text, line: BlockLine, i: usize)
-        requires there { There self.now.shape line }
+        requires there { There self.now.grid.shape line }
         requires room { HasRoom 10 text.old }
-        ensures { Adds 10 (column_text self.now.shape (numbers self.now line) i) text.old text.new }
+        ensures { Adds 10 (column_text self.now.grid.shape (numbers self.now line) i) text.old text.new }
     {
-        if i < self.shape.nx {
+        if i < self.grid.shape.nx {
             text.right_aligned(WIDTH, self.number(line, i));
         } else {
             text.blanks(WIDTH);
@@ -95,10 +93,10 @@ impl TracerPage<'_> {
 
     // A line of block b.
     fn line(&self, text: &mut Text, b: usize, line: BlockLine)
-        requires there { There self.now.shape line }
-        requires b_bound { b < block_count self.now.shape }
+        requires there { There self.now.grid.shape line }
+        requires b_bound { b < block_count self.now.grid.shape }
         requires room { HasRoom 74 text.old }
-        ensures { Adds 74 (block_line self.now.shape (line_first line) (numbers self.now line) b) text.old text.new }
+        ensures { Adds 74 (block_line self.now.grid.shape (line_first line) (numbers self.now line) b) text.old text.new }
     {
         let west = COLUMNS * b;
         self.first(text, line);
@@ -110,12 +108,12 @@ impl TracerPage<'_> {
 
     // Block b: its first line, and the rows from the northmost on.
     fn block(&self, text: &mut Text, b: usize)
-        requires b_bound { b < block_count self.now.shape }
-        requires room { HasRoom ((self.now.shape.ny + 1) * 74) text.old }
-        ensures { Adds ((self.now.shape.ny + 1) * 74) (block_text quadratic self.now.shape (page_part self.now) b) text.old text.new }
+        requires b_bound { b < block_count self.now.grid.shape }
+        requires room { HasRoom ((self.now.grid.shape.ny + 1) * 74) text.old }
+        ensures { Adds ((self.now.grid.shape.ny + 1) * 74) (block_text quadratic self.now.grid.shape (page_part self.now) b) text.old text.new }
     {
         self.line(text, b, BlockLine::Header);
-        for j in (0..self.shape.ny).rev() {
+        for j in (0..self.grid.shape.ny).rev() {
             self.line(text, b, BlockLine::Row(j));
         }
     }
@@ -133,19 +131,19 @@ fn sum_line(text: &mut Text, sum: u64)
 }
 
 // The page of a tracer whose total is `sum`, at the front of the buffer, and its bytes.
-pub fn page(out: &mut [u8], field: &[u32], shape: Shape, tracer: usize, sum: u64) -> usize
-    requires printable { Printable shape tracer field.now }
-    requires sum_value { sum ≡ total quadratic shape (part quadratic shape tracer field.now) }
-    requires shape_in_bounds { page_length shape ≤ length out.old }
-    ensures { Added (page_length shape) 0 (page_text quadratic shape (part quadratic shape tracer field.now)) out.old out.new result }
+pub fn page(out: &mut [u8], field: &[u32], grid: Grid, tracer: usize, sum: u64) -> usize
+    requires printable { Printable grid.shape tracer field.now }
+    requires sum_value { sum ≡ total quadratic grid.shape (part quadratic grid.shape tracer field.now) }
+    requires shape_in_bounds { page_length grid.shape ≤ length out.old }
+    ensures { Added (page_length grid.shape) 0 (page_text quadratic grid.shape (part quadratic grid.shape tracer field.now)) out.old out.new result }
 {
     let page = TracerPage {
         field,
-        shape,
+        grid,
         tracer,
     };
     let mut text = Text::new(out);
-    for b in 0..block_count(shape) {
+    for b in 0..block_count(grid) {
         page.block(&mut text, b);
     }
     sum_line(&mut text, sum);

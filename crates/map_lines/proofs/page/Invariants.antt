@@ -7,4 +7,4 @@ use Rattle.text.specs.Adds.{Adds}
 use Rattle.map_lines.proofs.page.Given as goal
 
 abbrev pub invariant-loop-b : goal.invariant-loop-b
-invariant-loop-b l = (l.b ≤ l.b-end) × Adds (l.b * ((l.fn.shape.ny + 1) * 74)) (blocks l.b (block_text quadratic l.fn.shape (part quadratic l.fn.shape l.tracer l.field))) l.initial.text l.text
+invariant-loop-b l = (l.b ≤ l.b-end) × Adds (l.b * ((l.fn.grid.shape.ny + 1) * 74)) (blocks l.b (block_text quadratic l.fn.grid.shape (part quadratic l.fn.grid.shape l.tracer l.field))) l.initial.text l.text

@@ -7,20 +7,20 @@ use Rattle.map_lines.proofs.TracerPage.block.Goals as goal
 
 pub loop-j-init : goal.loop-j-init
 loop-j-init c =
-    let ny = c.args.self.now.shape.ny in
+    let ny = c.args.self.now.grid.shape.ny in
     let e : 0 ≡ ny - ny = omega arith in
     rw (← e) (blocks-none 74 _ c.line.new.text (room c.line.ensures 0 (omega (arith, c.requires.room))))
 
 pub line-requires-in-loop-j-clause-room : goal.line-requires-in-loop-j-clause-room
 line-requires-in-loop-j-clause-room c =
-    let ny = c.args.self.now.shape.ny in
+    let ny = c.args.self.now.grid.shape.ny in
     block_room 74 _ c.loop-j.invariant ny (omega arith) (room c.line.ensures (ny * 74) (omega (arith, c.requires.room)))
 
 pub loop-j-preserved : goal.loop-j-preserved
 unfolding row_line
 loop-j-preserved c =
     let l = c.loop-j in
-    let ny = c.args.self.now.shape.ny in
+    let ny = c.args.self.now.grid.shape.ny in
     let next : ny - l.j + 1 ≡ ny - (l.j - 1) = omega arith in
     let row : l.j - 1 ≡ ny - (ny - l.j + 1) = omega arith in
     rw (← next) (block_more 74 _ l.invariant (rw row at c.line-in-loop-j.ensures))
@@ -29,6 +29,6 @@ pub returns : goal.returns
 unfolding block_text header_line
 returns c =
     let l = c.loop-j in
-    let ny = c.args.self.now.shape.ny in
+    let ny = c.args.self.now.grid.shape.ny in
     let e : ny - l.j ≡ ny = omega arith in
     wider (then c.line.ensures (rw e at l.invariant)) ((ny + 1) * 74) (omega arith)

@@ -9,5 +9,5 @@ use Rattle.map_lines.proofs.TracerPage.block.Given as goal
 
 abbrev pub invariant-loop-j : goal.invariant-loop-j
 invariant-loop-j l =
-    let n = l.self.shape.ny - l.j in
-    Adds (n * 74) (blocks n (λ k. row_line quadratic l.self.shape (page_part l.self) l.b (l.self.shape.ny - (k + 1)))) l.initial.text l.text
+    let n = l.self.grid.shape.ny - l.j in
+    Adds (n * 74) (blocks n (λ k. row_line quadratic l.self.grid.shape (page_part l.self) l.b (l.self.grid.shape.ny - (k + 1)))) l.initial.text l.text

@@ -23,9 +23,9 @@ right_aligned-requires c = omega (arith, ten (goal.at.right_aligned-requires c).
 pub returns-then-i-self : goal.returns-then-i-self
 returns-then-i-self c =
     let p = c.args.self.now in
-    same_bytes (ap (λ k. right_aligned 10 (decimal_by 19 k)) c.number.ensures ∙ sym (column-there p.shape (numbers p c.args.line) c.args.i c.if-i-self.true)) (wider c.right_aligned.ensures 10 (omega (arith, ten (goal.at.returns-then-i-self c).After-number)))
+    same_bytes (ap (λ k. right_aligned 10 (decimal_by 19 k)) c.number.ensures ∙ sym (column-there p.grid.shape (numbers p c.args.line) c.args.i c.if-i-self.true)) (wider c.right_aligned.ensures 10 (omega (arith, ten (goal.at.returns-then-i-self c).After-number)))
 
 pub returns-else-i-self : goal.returns-else-i-self
 returns-else-i-self c =
     let p = c.args.self.now in
-    same_bytes (sym (column-missing p.shape (numbers p c.args.line) c.args.i c.if-i-self.false)) c.blanks.ensures
+    same_bytes (sym (column-missing p.grid.shape (numbers p c.args.line) c.args.i c.if-i-self.false)) c.blanks.ensures

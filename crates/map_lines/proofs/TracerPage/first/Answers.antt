@@ -14,8 +14,8 @@ use Rattle.map_lines.proofs.TracerPage.first.Goals.{In-Row}
 -- the row's number takes three bytes
 three : (c : In-Row) → length (right_aligned 3 (decimal_by 19 c.in-Row.j)) ≡ 3
 three c =
-    let there : c.in-Row.j < c.args.self.now.shape.ny = row-there c.args.self.now.shape c.args.line c.in-Row.is c.requires.there in
-    (characters-number 3 2 c.in-Row.j (omega arith) (omega arith) (omega (arith, there, c.args.self.now.printable.admits.ny-small))).long
+    let there : c.in-Row.j < c.args.self.now.grid.shape.ny = row-there c.args.self.now.grid.shape c.args.line c.in-Row.is c.requires.there in
+    (characters-number 3 2 c.in-Row.j (omega arith) (omega arith) (omega (arith, there, c.args.self.now.grid.admitted.ny-small))).long
 
 pub right_aligned-requires : goal.right_aligned-requires
 right_aligned-requires c = omega (arith, three (goal.at.right_aligned-requires c).In-Row, c.requires.room)

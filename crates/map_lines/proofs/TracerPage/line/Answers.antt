@@ -7,7 +7,7 @@ use Rattle.map_lines.proofs.TracerPage.line.Goals as goal
 
 pub overflow_mul-west : goal.overflow_mul-west
 overflow_mul-west c =
-    record { fits = omega (arith, block-starts c.args.self.now.shape c.args.b c.requires.b_bound, c.args.self.now.printable.admits.nx-small) }
+    record { fits = omega (arith, block-starts c.args.self.now.grid.shape c.args.b c.requires.b_bound, c.args.self.now.grid.admitted.nx-small) }
 
 pub loop-c-init : goal.loop-c-init
 loop-c-init c =
@@ -15,7 +15,7 @@ loop-c-init c =
 
 pub overflow_add-west : goal.overflow_add-west
 overflow_add-west c =
-    record { fits = omega (arith, block-starts c.args.self.now.shape c.args.b c.requires.b_bound, c.args.self.now.printable.admits.nx-small) }
+    record { fits = omega (arith, block-starts c.args.self.now.grid.shape c.args.b c.requires.b_bound, c.args.self.now.grid.admitted.nx-small) }
 
 pub column-requires : goal.column-requires
 column-requires c =

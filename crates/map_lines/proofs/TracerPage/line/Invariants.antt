@@ -7,4 +7,4 @@ use Rattle.map_lines.specs.PageNumbers.{numbers}
 use Rattle.map_lines.proofs.TracerPage.line.Given as goal
 
 abbrev pub invariant-loop-c : goal.invariant-loop-c
-invariant-loop-c l = (l.c ≤ 7) × Adds (l.c * 10) (blocks l.c (λ k. column_text l.self.shape (numbers l.self l.line) (l.west + k))) l.initial.text l.text
+invariant-loop-c l = (l.c ≤ 7) × Adds (l.c * 10) (blocks l.c (λ k. column_text l.self.grid.shape (numbers l.self l.line) (l.west + k))) l.initial.text l.text
