@@ -1,5 +1,5 @@
 -- The map's checks, by the code's tests and the reading of the tracer's total; and what an answer leaves in the page.
-use mathlib.Core.Path.{◌≡◌, sym, ◌∙◌}
+use mathlib.Core.Path.{◌≡◌, sym, subst, ◌∙◌}
 use mathlib.Core.Bool.{true, false}
 use mathlib.Core.List.{List, []}
 use Prim.Native.Nat.{ℕ, ◌≤◌, ◌<◌}
@@ -9,12 +9,17 @@ use lib.ListN.{length}
 use Rattle.whole.specs.Table.{overwrite}
 use Rattle.whole.proofs.Cases.{and-true, and-false}
 use Rattle.rules.specs.declared.Shape.{Shape}
-use Rattle.rules.specs.Answers.{accepted, refused, answer}
+use Rattle.rules.specs.Answers.{Answer, accepted, refused, answer}
 use Rattle.rules.specs.Field.{quadratic, admitted, field_length, part}
 use Rattle.rules.specs.Calls.{total_reading, total_checks}
 use Rattle.rules.specs.Map.{page_text, page_length, map_reading, map_page}
 use Rattle.rules.proofs.AnswerLaws.{after-refused, after-accepted}
 use Rattle.field.proofs.CheckLaws.{first-refused, first-accepted}
+
+-- what the map gives for a grid's shape, for the shape that it was made of
+pub on_shape : {a : Answer ℕ} {new : List ℕ} {g h : Shape} (s : ℕ) (field page : List ℕ) → g ≡ h
+    → (a ≡ map_reading quadratic g s field page) × (new ≡ map_page quadratic g s field page) → (a ≡ map_reading quadratic h s field page) × (new ≡ map_page quadratic h s field page)
+on_shape {a} {new} s field page e p = subst (λ k. (a ≡ map_reading quadratic k s field page) × (new ≡ map_page quadratic k s field page)) e p
 
 module _ (g : Shape) (s : ℕ) (field page : List ℕ) where
   abbrev text : List ℕ

@@ -6,19 +6,18 @@ ghost use Rattle.rules.specs.Field.{quadratic};
 ghost use Rattle.rules.specs.Map.{MapGives};
 ghost use Rattle.rules.specs.Answers.{answers};
 
+use field_layout::Grid;
 use rules::{Refusal, Shape};
 
 // A tracer's page at the front of the buffer, and its bytes. The checks after the page's length are those of the tracer's total.
 pub fn map(page: &mut [u8], field: &[u32], shape: Shape, tracer: usize) -> Result<u64, Refusal>
     ensures { MapGives quadratic shape tracer field.now page.old (answers result) page.new }
 {
-    if !field_layout::admitted(shape) {
-        return Err(Refusal::BadShape);
-    }
-    if page.len() < map_lines::page_length(shape) {
+    let grid = Grid::try_from(shape)?;
+    if page.len() < map_lines::page_length(grid) {
         return Err(Refusal::ShortBuffer);
     }
-    let sum = field::total(field, shape, tracer)?;
-    let end = map_lines::page(page, field, shape, tracer, sum);
+    let sum = field::total_on(field, grid, tracer)?;
+    let end = map_lines::page(page, field, grid, tracer, sum);
     Ok(end as u64)
 }
