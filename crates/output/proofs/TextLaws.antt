@@ -4,15 +4,13 @@ use mathlib.Core.List.{List, ◌++◌}
 use Prim.Native.Nat.{ℕ, ◌+◌, ◌*◌, ◌≤◌}
 use native.Mathlib.Nat.{mul_assoc, mul_comm, mul-le-mul_right}
 use native.Mathlib.Omega.{arith}
-use lib.Dec.{T}
 use lib.IntN.{ℤ}
 use lib.ListN.{length, drop}
 use Rattle.whole.proofs.OverwriteLaws.{front-is}
 use Rattle.rules.specs.declared.Shape.{Shape}
 use Rattle.rules.specs.Answers.{accepted, refused, number}
-use Rattle.rules.specs.Field.{admitted, elements, faces}
+use Rattle.rules.specs.Field.{Admitted, elements, faces}
 use Rattle.rules.specs.Program.{refused_line, next, up_to, text_of, steps}
-use Rattle.rules.proofs.ShapeLaws.{ranges}
 use Rattle.std.specs.Prelude.{Result, Ok, Err}
 use Rattle.std.specs.Result.{IsErrAnd}
 use Rattle.std.proofs.lemmas.Result.{err_from_is_err_and}
@@ -33,11 +31,11 @@ module _ (g : Shape) (wind : List ℤ) (field : List ℕ) where
   refusal-text n e = sym (ap (λ a. text_of (next a (λ p. accepted p.text))) e)
 
 -- 200,000 bytes are enough for 128 elements and eight tracers
-pub text-fits : (g : Shape) → T (admitted g) → faces g ≤ 256 → 68 + g.tracers * tracer_room g ≤ 200000
-text-fits g t h =
+pub text-fits : (g : Shape) → Admitted g → faces g ≤ 256 → 68 + g.tracers * tracer_room g ≤ 200000
+text-fits g a h =
     let e : g.ny * (g.nx * 96) ≡ elements g * 96 = sym (mul_assoc g.ny g.nx 96) ∙ ap (λ n. n * 96) (mul_comm g.ny g.nx) in
     let room : tracer_room g ≤ 24624 = omega (arith, e) in
-    omega (arith, mul-le-mul_right (tracer_room g) (ranges g t).tracers-small)
+    omega (arith, mul-le-mul_right (tracer_room g) a.tracers-small)
 
 -- the lines of all tracers, or their refusal
 pub lines_of : (g : Shape) (wind : List ℤ) (field : List ℕ) {n : ℕ} {text : List ℕ} (field' : List ℕ) (old new : Text) → n ≤ 200000 → text_of (steps g field wind) ≡ text → (r : Result (Unit {0}) Refusal)

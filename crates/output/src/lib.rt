@@ -4,14 +4,15 @@
 ghost use Rattle.std.specs.Prelude.{◌≡◌, ◌*◌, ◌+◌, ◌≤◌, length, take};
 ghost use Rattle.io.specs.Counts.{IsPrefixLen};
 ghost use Rattle.whole.specs.Table.{overwrite};
-ghost use Rattle.rules.specs.Field.{faces, Admitted};
+ghost use Rattle.rules.specs.Field.{faces};
 ghost use Rattle.rules.specs.Program.{report_lent, work_lent, stepped, up_to, printed, steps, output};
 ghost use Rattle.text.specs.Adds.{HasRoom};
 ghost use Rattle.output.specs.AddedLines.{tracer_room, AddedOrRefused, LinesOrRefused};
 
+use field_layout::Grid;
 use program_file::{ELEMENTS, SMOKES};
+use rules::Refusal;
 use rules::element::NUMBERS;
-use rules::{Refusal, Shape};
 use text::Text;
 
 // No text is longer.
@@ -24,19 +25,18 @@ fn tracer(
     wind: &[i16],
     report: &mut [i32],
     work: &mut [i64],
-    shape: Shape,
+    grid: Grid,
     tracer: usize,
 ) -> Result<(), Refusal>
-    requires admitted { Admitted shape }
     requires report_len { length report.old ≡ report_lent }
     requires work_len { length work.old ≡ work_lent }
-    requires shape_bound { faces shape ≤ report_lent }
-    requires room { HasRoom (tracer_room shape) text.old }
-    ensures { AddedOrRefused (tracer_room shape) (stepped shape wind.now tracer field.old) field.new text.old text.new result }
+    requires shape_bound { faces grid.shape ≤ report_lent }
+    requires room { HasRoom (tracer_room grid.shape) text.old }
+    ensures { AddedOrRefused (tracer_room grid.shape) (stepped grid.shape wind.now tracer field.old) field.new text.old text.new result }
 {
-    step::step(field, wind, report, work, shape, tracer)?;
-    let total = field::total(field, shape, tracer)?;
-    text_lines::tracer_lines(text, shape, tracer, report, total);
+    step::step(field, wind, report, work, grid.shape, tracer)?;
+    let total = field::total_on(field, grid, tracer)?;
+    text_lines::tracer_lines(text, grid, tracer, report, total);
     Ok(())
 }
 
@@ -47,18 +47,17 @@ fn tracers(
     wind: &[i16],
     report: &mut [i32],
     work: &mut [i64],
-    shape: Shape,
+    grid: Grid,
 ) -> Result<(), Refusal>
-    requires admitted { Admitted shape }
     requires report_len { length report.old ≡ report_lent }
     requires work_len { length work.old ≡ work_lent }
-    requires shape_bound { faces shape ≤ report_lent }
-    requires room { HasRoom (68 + shape.tracers * tracer_room shape) text.old }
-    ensures { AddedOrRefused (68 + shape.tracers * tracer_room shape) (up_to shape wind.now shape.tracers field.old) field.new text.old text.new result }
+    requires shape_bound { faces grid.shape ≤ report_lent }
+    requires room { HasRoom (68 + grid.shape.tracers * tracer_room grid.shape) text.old }
+    ensures { AddedOrRefused (68 + grid.shape.tracers * tracer_room grid.shape) (up_to grid.shape wind.now grid.shape.tracers field.old) field.new text.old text.new result }
 {
-    text_lines::grid_line(text, shape);
-    for s in 0..shape.tracers {
-        tracer(text, field, wind, report, work, shape, s)?;
+    text_lines::grid_line(text, grid.shape);
+    for s in 0..grid.shape.tracers {
+        tracer(text, field, wind, report, work, grid, s)?;
     }
     Ok(())
 }
@@ -80,7 +79,8 @@ fn lines(
     ensures { LinesOrRefused (printed steps file.now field.old wind.old) text.old text.new result }
 {
     let shape = program_file::read(file, field, wind)?;
-    tracers(text, field, wind, report, work, shape)
+    let grid = Grid::try_from(shape)?;
+    tracers(text, field, wind, report, work, grid)
 }
 
 // The whole text at the front of the buffer: the lines, or the refusal alone.

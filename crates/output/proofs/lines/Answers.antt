@@ -1,12 +1,11 @@
 -- The lines: what the reading of the file refuses is passed on, and else it is what the tracers' lines are.
-use mathlib.Core.Path.{◌≡◌, sym}
+use mathlib.Core.Path.{◌≡◌, sym, ap, ◌∙◌}
 use Prim.Native.Nat.{◌≤◌}
 use native.Mathlib.Omega.{arith}
 use Rattle.rules.specs.Answers.{accepted}
 use Rattle.rules.specs.Field.{quadratic, faces}
-use Rattle.rules.specs.Program.{file_reply, steps}
-use Rattle.rules.proofs.ShapeLaws.{ranges}
-use Rattle.file_layout.proofs.ReplyLaws.{read-shown}
+use Rattle.rules.specs.Program.{file_reply, steps, text_of}
+use Rattle.file_layout.proofs.ReplyLaws.{Readable, read-shown}
 use Rattle.program_file.proofs.PrintedLaws.{file-read, refused-printed, text-printed}
 use Rattle.output.proofs.TextLaws.{text-fits, lines_of, passed-line}
 use Rattle.output.proofs.lines.Goals as goal
@@ -16,28 +15,32 @@ pub returns-in_err-shape : goal.returns-in_err-shape
 returns-in_err-shape c =
     passed-line _ _ c.from_residual.result _ c.from_residual.ensures.1 (refused-printed c.args.file.now c.args.field.now c.args.wind.now steps _ (sym c.in_err-shape.ensures.0))
 
--- the file was read, and its shape has no more than the lent winds
+-- the file was read: its shape is admitted, and has no more faces than the lent winds
 found : (c : In_ok-shape) → let a = c.args in file_reply a.file.now a.field.now a.wind.now ≡ accepted c.in_ok-shape.shape
 found c = sym c.in_ok-shape.ensures.0
 
-few : (c : In_ok-shape) → faces c.in_ok-shape.shape ≤ 256
-few c =
+shown : (c : In_ok-shape) → let a = c.args in Readable quadratic c.in_ok-shape.shape a.file.now a.field.now a.wind.now
+shown c =
     let a = c.args in
     let g = c.in_ok-shape.shape in
-    omega (arith, (read-shown quadratic g a.file.now a.field.now a.wind.now (file-read a.file.now a.field.now a.wind.now g (found c))).wind-room, c.requires.wind_len)
+    read-shown quadratic g a.file.now a.field.now a.wind.now (file-read a.file.now a.field.now a.wind.now g (found c))
+
+few : (c : In_ok-shape) → faces c.in_ok-shape.shape ≤ 256
+few c = omega (arith, (shown c).wind-room, c.requires.wind_len)
+
+pub returns-in_err-grid : goal.returns-in_err-grid
+returns-in_err-grid c = absurd (rw c.in_err-grid.ensures.0 at (shown (goal.at.returns-in_err-grid c).In_ok-shape).ranges)
 
 pub tracers-requires : goal.tracers-requires
 tracers-requires c =
-    let a = c.args in
-    let g = c.in_ok-shape.shape in
-    let o = (goal.at.tracers-requires c).In_ok-shape in
-    let s = read-shown quadratic g a.file.now a.field.now a.wind.now (file-read a.file.now a.field.now a.wind.now g (found o)) in
-    record { admitted = ranges g s.ranges; report_len = c.requires.report_len; work_len = c.requires.work_len; shape_bound = few o; room = omega (arith, text-fits g s.ranges (few o), c.requires.room) }
+    let g = c.in_ok-grid.grid in
+    let f : faces g.shape ≤ 256 = omega (arith, few (goal.at.tracers-requires c).In_ok-shape, ap faces c.in_ok-grid.ensures.1) in
+    record { report_len = c.requires.report_len; work_len = c.requires.work_len; shape_bound = f; room = omega (arith, text-fits g.shape g.admitted f, c.requires.room) }
 
 pub returns : goal.returns
 returns c =
     let a = c.args in
-    let g = c.in_ok-shape.shape in
-    let o = (goal.at.returns c).In_ok-shape in
-    let s = read-shown quadratic g a.file.now a.field.now a.wind.now (file-read a.file.now a.field.now a.wind.now g (found o)) in
-    lines_of g _ _ _ _ _ (text-fits g s.ranges (few o)) (text-printed a.file.now a.field.now a.wind.now steps g _ _ (found o) c.read.ensures.1.0 c.read.ensures.1.1) c.tracers.result c.tracers.ensures
+    let g = c.in_ok-grid.grid in
+    let f : faces g.shape ≤ 256 = omega (arith, few (goal.at.returns c).In_ok-shape, ap faces c.in_ok-grid.ensures.1) in
+    let e = text-printed a.file.now a.field.now a.wind.now steps c.in_ok-shape.shape _ _ (found (goal.at.returns c).In_ok-shape) c.read.ensures.1.0 c.read.ensures.1.1 in
+    lines_of g.shape _ _ _ _ _ (text-fits g.shape g.admitted f) (ap (λ k. text_of (steps k c.read.new.field c.read.new.wind)) c.in_ok-grid.ensures.1 ∙ e) c.tracers.result c.tracers.ensures

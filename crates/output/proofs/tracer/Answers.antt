@@ -6,16 +6,16 @@ use Rattle.output.proofs.Laws.{passed, step-refused, total-refused, lines-accept
 use Rattle.output.proofs.tracer.Goals as goal
 
 pub tracer_lines-requires : goal.tracer_lines-requires
-tracer_lines-requires c = record { admitted = c.requires.admitted; shape_in_bounds = omega (arith, c.requires, c.step.auto.report); room = c.requires.room }
+tracer_lines-requires c = record { shape_in_bounds = omega (arith, c.requires, c.step.auto.report); room = c.requires.room }
 
 pub returns-in_err-step : goal.returns-in_err-step
 returns-in_err-step c =
-    passed _ _ _ _ _ c.from_residual.result _ c.from_residual.ensures.1 (step-refused c.args.shape c.args.wind.now c.args.tracer c.args.field.now _ _ c.requires.report_len c.requires.work_len _ (sym c.in_err-step.ensures.0))
+    passed _ _ _ _ _ c.from_residual.result _ c.from_residual.ensures.1 (step-refused c.args.grid.shape c.args.wind.now c.args.tracer c.args.field.now _ _ c.requires.report_len c.requires.work_len _ (sym c.in_err-step.ensures.0))
 
 pub returns-in_err-total : goal.returns-in_err-total
 returns-in_err-total c =
     passed _ _ _ _ _ c.from_residual-in_err-total.result _ c.from_residual-in_err-total.ensures.1
-    (total-refused c.args.shape c.args.wind.now c.args.tracer c.args.field.now _ _ c.requires.report_len c.requires.work_len (sym c.in_ok-step.ensures.0) _ _ c.step.ensures.1.0 (sym c.in_err-total.ensures))
+    (total-refused c.args.grid.shape c.args.wind.now c.args.tracer c.args.field.now _ _ c.requires.report_len c.requires.work_len (sym c.in_ok-step.ensures.0) _ _ c.step.ensures.1.0 (sym c.in_err-total.ensures))
 
 pub returns : goal.returns
 returns c =
@@ -24,6 +24,6 @@ returns c =
     let q = sym c.in_ok-total.ensures in
     record {
       text = _;
-      is = lines-accepted c.args.shape c.args.wind.now c.args.tracer c.args.field.now _ _ c.requires.report_len c.requires.work_len e n _ c.step.ensures.1.0 q;
-      added = same_bytes (lines_are c.args.shape c.args.wind.now c.args.tracer c.args.field.now _ _ c.requires.report_len c.requires.work_len e n c.args.report.now _ c.step.ensures.1.1.0 (omega (arith, c.requires.report_len, c.requires.shape_bound))) c.tracer_lines.ensures;
+      is = lines-accepted c.args.grid.shape c.args.wind.now c.args.tracer c.args.field.now _ _ c.requires.report_len c.requires.work_len e n _ c.step.ensures.1.0 q;
+      added = same_bytes (lines_are c.args.grid.shape c.args.wind.now c.args.tracer c.args.field.now _ _ c.requires.report_len c.requires.work_len e n c.args.report.now _ c.step.ensures.1.1.0 (omega (arith, c.requires.report_len, c.requires.shape_bound))) c.tracer_lines.ensures;
     }

@@ -3,4 +3,4 @@ use Rattle.output.proofs.Laws.{TracersAdded}
 use Rattle.output.proofs.tracers.Given as goal
 
 abbrev pub invariant-loop-s : goal.invariant-loop-s
-invariant-loop-s l = TracersAdded l.shape l.wind l.s l.initial.field l.field l.initial.text l.text
+invariant-loop-s l = TracersAdded l.grid.shape l.wind l.s l.initial.field l.field l.initial.text l.text
