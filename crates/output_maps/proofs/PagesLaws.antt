@@ -12,14 +12,14 @@ use lib.ListN.{length}
 use Rattle.whole.proofs.SumLaws.{all-at}
 use Rattle.rules.specs.declared.Shape.{Shape}
 use Rattle.rules.specs.Answers.{accepted, refused}
-use Rattle.rules.specs.Field.{quadratic, admitted, elements, faces, field_length, part, sound}
+use Rattle.rules.specs.Field.{quadratic, Admitted, elements, faces, field_length, part, sound}
 use Rattle.rules.specs.Calls.{sound_if_there}
 use Rattle.rules.specs.FieldFile.{field_sound, read_field}
 use Rattle.rules.specs.Map.{block_count, page_text, page_length, map_checks, map_reading, map_page}
 use Rattle.rules.proofs.AnswerLaws.{passed-accepts}
 use Rattle.rules.proofs.FieldLaws.{total-small}
 use Rattle.rules.proofs.MapLaws.{page-length}
-use Rattle.rules.proofs.ShapeLaws.{ranges}
+use Rattle.field_layout.proofs.PlaceLaws.{is-admitted}
 use Rattle.file_layout.proofs.ReplyLaws.{and_yes, Readable, field-read}
 use Rattle.file_round_trips.proofs.ReadThenWritten.{new-field-long, new-field-sound}
 use Rattle.map.proofs.CheckLaws.{page-written}
@@ -31,7 +31,7 @@ unfolding sound_if_there
 sound-if g p true t = t
 sound-if g p false t = tt
 
-module _ (g : Shape) (field : List ℕ) (h : SoundField g field) (s : ℕ) (there : s < g.tracers) where
+module _ (g : Shape) (a : Admitted g) (field : List ℕ) (h : SoundField g field) (s : ℕ) (there : s < g.tracers) where
   abbrev text : List ℕ
   text = page_text quadratic g (part quadratic g s field)
 
@@ -40,13 +40,13 @@ module _ (g : Shape) (field : List ℕ) (h : SoundField g field) (s : ℕ) (ther
   sound-part = all-at g.tracers (λ s. sound quadratic g (part quadratic g s field)) h.tracers s there
 
   text-long : length text ≡ page_length g
-  text-long = page-length quadratic g (part quadratic g s field) (ranges g h.ranges) (total-small quadratic g (part quadratic g s field) sound-part)
+  text-long = page-length quadratic g (part quadratic g s field) a (total-small quadratic g (part quadratic g s field) sound-part)
 
   -- a page that is long enough is accepted
   accepts : (page : List ℕ) → page_length g ≤ length page → map_reading quadratic g s field page ≡ accepted (length text)
   unfolding map_reading
   accepts page room = passed-accepts (map_checks quadratic g s field page) (length text)
-      (h.ranges, (and_yes (leb (field_length quadratic g) (length field)) (leb (page_length g) (length page)) (le→leb _ _ h.room) (le→leb _ _ room), (sound-if g (part quadratic g s field) (ltb s g.tracers) sound-part, (lt→ltb _ _ there, tt))))
+      (rw (is-admitted g a) tt, (and_yes (leb (field_length quadratic g) (length field)) (leb (page_length g) (length page)) (le→leb _ _ h.room) (le→leb _ _ room), (sound-if g (part quadratic g s field) (ltb s g.tracers) sound-part, (lt→ltb _ _ there, tt))))
 
   module _ (out : List ℕ) (room : page_length g ≤ length out) where
     pub never-refused : {A : Type 0} (n : ℕ) → refused n ≡ map_reading quadratic g s field out → A
@@ -66,20 +66,20 @@ module _ (g : Shape) (field : List ℕ) (h : SoundField g field) (s : ℕ) (ther
 -- the field of an accepted file
 pub read-sound : (g : Shape) (file field : List ℕ) (wind : List ℤ) → Readable quadratic g file field wind → SoundField g (read_field quadratic file field wind)
 read-sound g file field wind r = subst (SoundField g) (sym (field-read quadratic g file field wind r))
-    (record { ranges = r.ranges; room = omega (arith, r.field_room, new-field-long quadratic g file field wind r); tracers = new-field-sound quadratic g file field wind r })
+    (record { room = omega (arith, r.field_room, new-field-long quadratic g file field wind r); tracers = new-field-sound quadratic g file field wind r })
 
 -- ---- the room for all pages: the longest page of 128 elements has 66 lines
-few-lines : (g : Shape) → T (admitted g) → elements g ≤ 128 → block_count g * (g.ny + 1) ≤ 65
+few-lines : (g : Shape) → Admitted g → elements g ≤ 128 → block_count g * (g.ny + 1) ≤ 65
 unfolding block_count
-few-lines g t h = go (dec_lt g.nx 8)
+few-lines g a h = go (dec_lt g.nx 8)
   where
     go : Dec (g.nx < 8) → block_count g * (g.ny + 1) ≤ 65
-    go (yes narrow) = let one : block_count g ≡ 1 = omega (arith, (ranges g t).nx-above) in rw one (omega (arith, (ranges g t).ny-small))
+    go (yes narrow) = let one : block_count g ≡ 1 = omega (arith, a.nx-above) in rw one (omega (arith, a.ny-small))
     go (no wide) =
         let four : 4 * block_count g ≤ g.nx = omega arith in
         let rows : 4 * block_count g * g.ny ≤ elements g = mul-le-mul_right g.ny four in
-        omega (arith, mul_assoc 4 (block_count g) g.ny, mul-add (block_count g) g.ny 1, (ranges g t).nx-small)
+        omega (arith, mul_assoc 4 (block_count g) g.ny, mul-add (block_count g) g.ny 1, a.nx-small)
 
-pub pages-fit : (g : Shape) → T (admitted g) → faces g ≤ 256 → g.tracers * page_length g ≤ 39072
+pub pages-fit : (g : Shape) → Admitted g → faces g ≤ 256 → g.tracers * page_length g ≤ 39072
 unfolding page_length
-pages-fit g t h = mul-le-mul {n₂ = 8} {m₂ = 4884} (ranges g t).tracers-small (omega (arith, few-lines g t (omega arith)))
+pages-fit g a h = mul-le-mul {n₂ = 8} {m₂ = 4884} a.tracers-small (omega (arith, few-lines g a (omega arith)))

@@ -10,32 +10,32 @@ ghost use Rattle.rules.specs.Program.{map_output};
 ghost use Rattle.text.specs.Added.{Added};
 ghost use Rattle.output_maps.specs.SoundField.{SoundField};
 
+use field_layout::Grid;
 use program_file::{ELEMENTS, SMOKES};
-use rules::Shape;
 use rules::element::NUMBERS;
 
 // One tracer's page at the front of the buffer, and its bytes. No map of a sound field is refused, so that the second case is not met.
-fn page(out: &mut [u8], field: &[u32], shape: Shape, tracer: usize) -> usize
-    requires sound_field { SoundField shape field.now }
-    requires tracer_lt_tracers { tracer < shape.tracers }
-    requires shape_in_bounds { page_length shape ≤ length out.old }
-    ensures { Added (page_length shape) 0 (page_text quadratic shape (part quadratic shape tracer field.now)) out.old out.new result }
+fn page(out: &mut [u8], field: &[u32], grid: Grid, tracer: usize) -> usize
+    requires sound_field { SoundField grid.shape field.now }
+    requires tracer_lt_tracers { tracer < grid.shape.tracers }
+    requires shape_in_bounds { page_length grid.shape ≤ length out.old }
+    ensures { Added (page_length grid.shape) 0 (page_text quadratic grid.shape (part quadratic grid.shape tracer field.now)) out.old out.new result }
 {
-    match map::map(out, field, shape, tracer) {
+    match map::map(out, field, grid.shape, tracer) {
         Ok(n) => n as usize,
         Err(_) => 0,
     }
 }
 
 // The pages of all tracers, in order.
-fn pages(out: &mut [u8], field: &[u32], shape: Shape) -> usize
-    requires sound_field { SoundField shape field.now }
-    requires shape_in_bounds { shape.tracers * page_length shape ≤ length out.old }
-    ensures { Added (shape.tracers * page_length shape) 0 (blocks shape.tracers (λ s. page_text quadratic shape (part quadratic shape s field.now))) out.old out.new result }
+fn pages(out: &mut [u8], field: &[u32], grid: Grid) -> usize
+    requires sound_field { SoundField grid.shape field.now }
+    requires shape_in_bounds { grid.shape.tracers * page_length grid.shape ≤ length out.old }
+    ensures { Added (grid.shape.tracers * page_length grid.shape) 0 (blocks grid.shape.tracers (λ s. page_text quadratic grid.shape (part quadratic grid.shape s field.now))) out.old out.new result }
 {
     let mut end = 0;
-    for s in 0..shape.tracers {
-        end += page(&mut out[end..], field, shape, s);
+    for s in 0..grid.shape.tracers {
+        end += page(&mut out[end..], field, grid, s);
     }
     end
 }
@@ -52,6 +52,6 @@ pub fn print(file: &[u8], out: &mut [u8]) -> usize
     let mut wind = [0i16; 2 * ELEMENTS];
     match program_file::read(file, &mut field, &mut wind) {
         Err(r) => program_file::refusal(out, r),
-        Ok(shape) => pages(out, &field, shape),
+        Ok(shape) => pages(out, &field, Grid { shape }),
     }
 }

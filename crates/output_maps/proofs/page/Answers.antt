@@ -7,9 +7,9 @@ use Rattle.output_maps.proofs.page.Goals as goal
 pub returns-in-Ok : goal.returns-in-Ok
 returns-in-Ok c =
     let a = c.args in
-    page-added a.shape a.field.now c.requires.sound_field a.tracer c.requires.tracer_lt_tracers a.out.now c.requires.shape_in_bounds _ _ (sym (ap answered c.in-Ok.is) ∙ c.map.ensures.0) c.map.ensures.1
+    page-added a.grid.shape a.grid.admitted a.field.now c.requires.sound_field a.tracer c.requires.tracer_lt_tracers a.out.now c.requires.shape_in_bounds _ _ (sym (ap answered c.in-Ok.is) ∙ c.map.ensures.0) c.map.ensures.1
 
 pub returns-in-Err : goal.returns-in-Err
 returns-in-Err c =
     let a = c.args in
-    never-refused a.shape a.field.now c.requires.sound_field a.tracer c.requires.tracer_lt_tracers a.out.now c.requires.shape_in_bounds _ (sym (ap answered c.in-Err.is) ∙ c.map.ensures.0)
+    never-refused a.grid.shape a.grid.admitted a.field.now c.requires.sound_field a.tracer c.requires.tracer_lt_tracers a.out.now c.requires.shape_in_bounds _ (sym (ap answered c.in-Err.is) ∙ c.map.ensures.0)

@@ -7,12 +7,12 @@ use Rattle.output_maps.proofs.pages.Goals as goal
 pub loop-s-init : goal.loop-s-init
 loop-s-init c =
     let a = c.args in
-    (omega arith, blocks-none (page_length a.shape) _ 0 a.out.now (omega arith))
+    (omega arith, blocks-none (page_length a.grid.shape) _ 0 a.out.now (omega arith))
 
 pub loop-s-preserved : goal.loop-s-preserved
 loop-s-preserved c =
     let p = c.loop-s.invariant.1 in
-    (omega arith, block_more (page_length c.args.shape) _ p (behind refl (omega (arith, p.ends, p.fits, c.loop-s.auto.out)) c.page-end.ensures))
+    (omega arith, block_more (page_length c.args.grid.shape) _ p (behind refl (omega (arith, p.ends, p.fits, c.loop-s.auto.out)) c.page-end.ensures))
 
 pub shape_of-out : goal.shape_of-out
 shape_of-out c = added-length c.loop-s.invariant.1
@@ -20,5 +20,5 @@ shape_of-out c = added-length c.loop-s.invariant.1
 pub returns : goal.returns
 returns c =
     let l = c.loop-s in
-    let e : l.s ≡ c.args.shape.tracers = omega arith in
+    let e : l.s ≡ c.args.grid.shape.tracers = omega arith in
     rw e at l.invariant.1
