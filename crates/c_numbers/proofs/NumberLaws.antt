@@ -1,7 +1,6 @@
 -- Answers as numbers.
 use mathlib.Core.Path.{◌≡◌, refl, sym, ap, subst, ◌∙◌}
-use mathlib.Core.Logic.{◌≢◌}
-use Prim.Native.Nat.{ℕ, zero, suc, ◌≤◌}
+use Prim.Native.Nat.{ℕ, ◌≤◌}
 use native.Mathlib.Omega.{arith}
 use lib.IntN.{ℤ, pos, neg_ℤ}
 use mir.Syntax.{w64}
@@ -14,7 +13,7 @@ use Rattle.rules.specs.declared.Shape.{Shape}
 use Rattle.rules.specs.declared.Refusal.{Refusal}
 use Rattle.rules.specs.Answers.{Answer, accepted, refused, number}
 use Rattle.rules.specs.Field.{Admitted, limit}
-use Rattle.c_numbers.specs.Numbers.{face_of, number_or, Small, shape_number, shape_or, AdmittedShape}
+use Rattle.c_numbers.specs.Numbers.{number_or, Small, shape_number, shape_or, AdmittedShape}
 
 -- ---- an answered number, and a refusal's, as signed numbers
 pub number_is : (a : Answer ℕ) (n : ℕ) → Small a → a ≡ accepted n → Are limit (to_z w64 n) (number_or a)
@@ -45,13 +44,3 @@ unfolding shape_or
 shape_is a g h e =
     let small = shape-le g (h.small g e) in
     are-eq (record { same = to_z_pos w64 (omega arith); bound = record { within = omega arith } }) (sym (ap shape_or e))
-
--- ---- the face of a wind call, by its way
-module _ (i j : ℕ) (c : ℤ) where
-  pub face-of : (way w : ℕ) → way ≡ w → face_of w i j c ≡ face_of way i j c
-  face-of way w e = ap (λ x. face_of x i j c) (sym e)
-
-  pub face-none : (way : ℕ) → way ≢ 0 → way ≢ 1 → face_of 2 i j c ≡ face_of way i j c
-  face-none zero e f = absurd (e refl)
-  face-none (suc zero) e f = absurd (f refl)
-  face-none (suc (suc w)) e f = refl

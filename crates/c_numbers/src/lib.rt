@@ -5,7 +5,7 @@ ghost use Rattle.std.specs.Prelude.{◌≡◌, pos, neg_ℤ};
 ghost use Rattle.whole.specs.Bound.{Are};
 ghost use Rattle.rules.specs.Answers.{number, answered};
 ghost use Rattle.rules.specs.Field.{limit};
-ghost use Rattle.c_numbers.specs.Numbers.{face_of, code, number_or, Small, shape_or, AdmittedShape};
+ghost use Rattle.c_numbers.specs.Numbers.{shape_of, face_of, code, number_or, Small, shape_or, AdmittedShape};
 
 use rules::{Face, Refusal, Shape, Way};
 
@@ -48,30 +48,25 @@ pub fn shape_or(answer: Result<Shape, Refusal>) -> i64
     }
 }
 
+// The shape of three numbers.
+pub fn shape(nx: usize, ny: usize, smokes: usize) -> Shape
+    ensures { result ≡ shape_of nx ny smokes }
+{
+    Shape {
+        nx,
+        ny,
+        tracers: smokes,
+    }
+}
+
 // The face of element (i, j) that looks east (way 0) or north (way 1). No grid has a column 64: any other way is no face.
 pub fn face(way: u8, i: usize, j: usize, wind: i16) -> Face
     ensures { result ≡ face_of way i j wind }
 {
-    if way == 0 {
-        return Face {
-            way: Way::East,
-            i,
-            j,
-            wind,
-        };
-    }
-    if way == 1 {
-        return Face {
-            way: Way::North,
-            i,
-            j,
-            wind,
-        };
-    }
-    Face {
-        way: Way::East,
-        i: 64,
-        j: 0,
-        wind,
-    }
+    let (way, i, j) = match way {
+        0 => (Way::East, i, j),
+        1 => (Way::North, i, j),
+        _ => (Way::East, 64, 0),
+    };
+    Face { way, i, j, wind }
 }
