@@ -4,7 +4,7 @@ use lib.ListN.{length}
 use mir.Facts.{to_z-of_z}
 use mir.Syntax.{w32}
 use Rattle.rules.specs.Program.{face_line}
-use Rattle.text.proofs.AddsLaws.{same_bytes, blocks-none, block_room, block_more}
+use Rattle.text.proofs.AddsLaws.{same_bytes, blocks-none, block_more}
 use Rattle.text_lines.proofs.RowLaws.{row, row-long, row_is}
 use Rattle.text_lines.proofs.TracerReport.face_row.Goals as goal
 use Rattle.text_lines.proofs.TracerReport.face_row.Goals.{After-first_face-first}
@@ -15,10 +15,6 @@ long c = let p = c.args.self.now in row-long p.grid.shape c.args.way p.report.no
 
 pub loop-i-init : goal.loop-i-init
 loop-i-init c = blocks-none 96 _ c.args.text.now (omega (arith, c.requires.room))
-
-pub face_line-requires : goal.face_line-requires
-face_line-requires c =
-    block_room 96 _ c.loop-i.invariant c.args.self.now.grid.shape.nx (omega (arith, c.loop-i-test.true, long (goal.at.face_line-requires c).After-first_face-first)) c.requires.room
 
 pub loop-i-preserved : goal.loop-i-preserved
 loop-i-preserved c =
