@@ -1,5 +1,5 @@
 // The page of a map, as a text: its blocks, and the line of the sum. Each function is a leaf; those that add to a text ask for room and for a
-// tracer that can be printed. `page` and `page_length` are what the call uses.
+// tracer that can be printed. `page` and `page_length` are what the call uses. A place becomes a u64 by `as`, since std has no `From` for it.
 #![tactic(auto)]
 
 ghost use Rattle.std.specs.Prelude.{◌≡◌, ◌+◌, ◌*◌, ◌≤◌, ◌<◌, length};

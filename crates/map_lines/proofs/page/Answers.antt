@@ -32,9 +32,8 @@ all c =
     let e : c.loop-b.b ≡ block_count c.args.grid.shape = omega (arith, c.block_count-b-end.ensures) in
     rw e at c.loop-b.invariant.1
 
-pub sum_line-requires : goal.sum_line-requires
-sum_line-requires c =
-    record { sum_le_limit = omega (arith, c.requires.sum_value, c.requires.printable.small); room = room (all (goal.at.sum_line-requires c).After-loop-b) 74 (all-room (goal.at.sum_line-requires c).After-block_count-b-end) }
+pub sum_line-requires-clause-room : goal.sum_line-requires-clause-room
+sum_line-requires-clause-room c = room (all (goal.at.sum_line-requires-clause-room c).After-loop-b) 74 (all-room (goal.at.sum_line-requires-clause-room c).After-block_count-b-end)
 
 pub returns : goal.returns
 unfolding page_text

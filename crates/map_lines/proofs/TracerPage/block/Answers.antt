@@ -2,7 +2,7 @@ use mathlib.Core.Path.{◌≡◌}
 use Prim.Native.Nat.{◌+◌, ◌*◌, ◌-◌}
 use native.Mathlib.Omega.{arith}
 use Rattle.rules.specs.Map.{header_line, row_line, block_text}
-use Rattle.text.proofs.AddsLaws.{room, then, wider, blocks-none, block_room, block_more}
+use Rattle.text.proofs.AddsLaws.{room, then, wider, blocks-none, block_more}
 use Rattle.map_lines.proofs.TracerPage.block.Goals as goal
 
 pub loop-j-init : goal.loop-j-init
@@ -10,11 +10,6 @@ loop-j-init c =
     let ny = c.args.self.now.grid.shape.ny in
     let e : 0 ≡ ny - ny = omega arith in
     rw (← e) (blocks-none 74 _ c.line.new.text (room c.line.ensures 0 (omega (arith, c.requires.room))))
-
-pub line-requires-in-loop-j-clause-room : goal.line-requires-in-loop-j-clause-room
-line-requires-in-loop-j-clause-room c =
-    let ny = c.args.self.now.grid.shape.ny in
-    block_room 74 _ c.loop-j.invariant ny (omega arith) (room c.line.ensures (ny * 74) (omega (arith, c.requires.room)))
 
 pub loop-j-preserved : goal.loop-j-preserved
 unfolding row_line

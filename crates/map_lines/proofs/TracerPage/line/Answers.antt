@@ -2,7 +2,7 @@ use mathlib.Core.Path.{◌≡◌}
 use native.Mathlib.Omega.{arith}
 use Rattle.rules.specs.Map.{block_line}
 use Rattle.rules.proofs.MapLaws.{block-starts}
-use Rattle.text.proofs.AddsLaws.{room, then, blocks-none, block_room, block_more}
+use Rattle.text.proofs.AddsLaws.{room, then, blocks-none, block_more}
 use Rattle.map_lines.proofs.TracerPage.line.Goals as goal
 
 pub overflow_mul-west : goal.overflow_mul-west
@@ -16,10 +16,6 @@ loop-c-init c =
 pub overflow_add-west : goal.overflow_add-west
 overflow_add-west c =
     record { fits = omega (arith, block-starts c.args.self.now.grid.shape c.args.b c.requires.b_bound, c.args.self.now.grid.admitted.nx-small) }
-
-pub column-requires : goal.column-requires
-column-requires c =
-    record { there = c.requires.there; room = block_room 10 _ c.loop-c.invariant.1 7 c.loop-c-test.true (room c.first.ensures 70 (omega (arith, c.requires.room))) }
 
 pub loop-c-preserved : goal.loop-c-preserved
 loop-c-preserved c =
