@@ -5,7 +5,7 @@ ghost use Rattle.std.specs.Prelude.{◌≡◌, pos, neg_ℤ};
 ghost use Rattle.whole.specs.Bound.{Are};
 ghost use Rattle.rules.specs.Answers.{number, answered};
 ghost use Rattle.rules.specs.Field.{limit};
-ghost use Rattle.c_numbers.specs.Numbers.{shape_of, face_of, code, number_or, Small, shape_or, AdmittedShape};
+ghost use Rattle.c_numbers.specs.Numbers.{face_of, code, number_or, Small, shape_or, AdmittedShape};
 
 use rules::{Face, Refusal, Shape, Way};
 
@@ -45,17 +45,6 @@ pub fn shape_or(answer: Result<Shape, Refusal>) -> i64
     match answer {
         Ok(shape) => (shape.nx + 256 * shape.ny + 65536 * shape.tracers) as i64,
         Err(r) => negated(r),
-    }
-}
-
-// The shape of three numbers.
-pub fn shape(nx: usize, ny: usize, smokes: usize) -> Shape
-    ensures { result ≡ shape_of nx ny smokes }
-{
-    Shape {
-        nx,
-        ny,
-        tracers: smokes,
     }
 }
 

@@ -9,6 +9,8 @@ ghost use Rattle.rules.specs.FieldFile.{ReadGives, WriteGives};
 ghost use Rattle.rules.specs.Map.{MapGives};
 ghost use Rattle.c_numbers.specs.Numbers.{shape_of, face_of, coded, numbered, shaped};
 
+use rules::Shape;
+
 // Zeros in field and wind.
 #[unsafe(no_mangle)]
 pub extern "C" fn plume_fresh(
@@ -20,7 +22,11 @@ pub extern "C" fn plume_fresh(
 ) -> u8
     ensures { FreshGives quadratic (shape_of nx ny smokes) field.old wind.old (coded result) field.new wind.new }
 {
-    let shape = c_numbers::shape(nx, ny, smokes);
+    let shape = Shape {
+        nx,
+        ny,
+        tracers: smokes,
+    };
     c_numbers::code(field::fresh(field, wind, shape))
 }
 
@@ -38,7 +44,11 @@ pub extern "C" fn plume_wind(
 ) -> u8
     ensures { WindGives (shape_of nx ny smokes) (one_face (face_of way i j c)) wind.old (coded result) wind.new }
 {
-    let shape = c_numbers::shape(nx, ny, smokes);
+    let shape = Shape {
+        nx,
+        ny,
+        tracers: smokes,
+    };
     let face = c_numbers::face(way, i, j, c);
     c_numbers::code(field::wind(wind, shape, face))
 }
@@ -54,7 +64,11 @@ pub extern "C" fn plume_import(
 ) -> u8
     ensures { WindGives (shape_of nx ny smokes) (from_records records.now) wind.old (coded result) wind.new }
 {
-    let shape = c_numbers::shape(nx, ny, smokes);
+    let shape = Shape {
+        nx,
+        ny,
+        tracers: smokes,
+    };
     c_numbers::code(wind_import::import(wind, records, shape))
 }
 
@@ -70,7 +84,11 @@ pub extern "C" fn plume_load(
 ) -> u8
     ensures { CallGives quadratic (shape_of nx ny smokes) smoke (load numbers.now) field.old (coded result) field.new }
 {
-    let shape = c_numbers::shape(nx, ny, smokes);
+    let shape = Shape {
+        nx,
+        ny,
+        tracers: smokes,
+    };
     c_numbers::code(field::load(field, numbers, shape, smoke))
 }
 
@@ -88,7 +106,11 @@ pub extern "C" fn plume_emission(
 ) -> u8
     ensures { CallGives quadratic (shape_of nx ny smokes) smoke (emission i j q) field.old (coded result) field.new }
 {
-    let shape = c_numbers::shape(nx, ny, smokes);
+    let shape = Shape {
+        nx,
+        ny,
+        tracers: smokes,
+    };
     c_numbers::code(field::emission(field, shape, smoke, i, j, q))
 }
 
@@ -106,7 +128,11 @@ pub extern "C" fn plume_withdrawal(
 ) -> u8
     ensures { CallGives quadratic (shape_of nx ny smokes) smoke (withdrawal i j q) field.old (coded result) field.new }
 {
-    let shape = c_numbers::shape(nx, ny, smokes);
+    let shape = Shape {
+        nx,
+        ny,
+        tracers: smokes,
+    };
     c_numbers::code(field::withdrawal(field, shape, smoke, i, j, q))
 }
 
@@ -124,7 +150,11 @@ pub extern "C" fn plume_step(
 ) -> u8
     ensures { StepGives quadratic (shape_of nx ny smokes) smoke field.old wind.now report.old work.old (coded result) field.new report.new work.new }
 {
-    let shape = c_numbers::shape(nx, ny, smokes);
+    let shape = Shape {
+        nx,
+        ny,
+        tracers: smokes,
+    };
     c_numbers::code(step::step(field, wind, report, work, shape, smoke))
 }
 
@@ -141,7 +171,11 @@ pub extern "C" fn plume_mass(
 ) -> i64
     ensures { numbered result (mass_reading quadratic (shape_of nx ny smokes) smoke i j field.now) }
 {
-    let shape = c_numbers::shape(nx, ny, smokes);
+    let shape = Shape {
+        nx,
+        ny,
+        tracers: smokes,
+    };
     c_numbers::number_or(field::mass(field, shape, smoke, i, j))
 }
 
@@ -156,7 +190,11 @@ pub extern "C" fn plume_total(
 ) -> i64
     ensures { numbered result (total_reading quadratic (shape_of nx ny smokes) smoke field.now) }
 {
-    let shape = c_numbers::shape(nx, ny, smokes);
+    let shape = Shape {
+        nx,
+        ny,
+        tracers: smokes,
+    };
     c_numbers::number_or(field::total(field, shape, smoke))
 }
 
@@ -172,7 +210,11 @@ pub extern "C" fn plume_map(
 ) -> i64
     ensures { MapGives quadratic (shape_of nx ny smokes) smoke field.now page.old (numbered result) page.new }
 {
-    let shape = c_numbers::shape(nx, ny, smokes);
+    let shape = Shape {
+        nx,
+        ny,
+        tracers: smokes,
+    };
     c_numbers::number_or(map::map(page, field, shape, smoke))
 }
 
@@ -196,6 +238,10 @@ pub extern "C" fn plume_write(
 ) -> i64
     ensures { WriteGives quadratic (shape_of nx ny smokes) field.now wind.now file.old (numbered result) file.new }
 {
-    let shape = c_numbers::shape(nx, ny, smokes);
+    let shape = Shape {
+        nx,
+        ny,
+        tracers: smokes,
+    };
     c_numbers::number_or(file_writing::write(file, field, wind, shape))
 }
