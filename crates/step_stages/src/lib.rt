@@ -89,7 +89,7 @@ fn start_element(work: &mut [i64], numbers: &[u32], to: usize, sums: usize)
 {
     for k in 0..NODES {
         work[sums + k] = 0;
-        work[to + k] = numbers[k] as i64;
+        work[to + k] = i64::from(numbers[k]);
     }
 }
 

@@ -6,7 +6,7 @@ use lib.IntN.{pos}
 use lib.ListN.{length, get_or, length-set}
 use mir.Syntax.{w64}
 use Rattle.whole.proofs.WrittenLaws.{written_none, written_next}
-use mir.Facts.{to_z_pos}
+use Rattle.whole.proofs.Sizes.{read_back}
 use Rattle.step_stages.proofs.start_element.Goals as goal
 use Rattle.step_stages.proofs.start_element.Goals.{In-loop-k}
 
@@ -16,9 +16,6 @@ loop-k-init c = (omega arith, written_none _ _ _ _ _)
 room : (c : In-loop-k) → (c.args.sums + 9 ≤ length c.loop-k.work) × (c.args.to + 9 ≤ c.args.sums)
 room c = let h = c.requires in (omega (arith, h.sums_in_bounds, c.loop-k.invariant.1.long), h.to_bound)
 
-pub overflow_cast-work : goal.overflow_cast-work
-overflow_cast-work c = record { sfits = omega (arith, c.type_inv.numbers c.loop-k.k) }
-
 pub bounds-work-to : goal.bounds-work-to
 bounds-work-to c = rw length-set (omega (arith, room (goal.at.bounds-work-to c).In-loop-k))
 
@@ -26,7 +23,7 @@ pub loop-k-preserved : goal.loop-k-preserved
 loop-k-preserved c =
     let a = c.args in
     let l = c.loop-k in
-    (omega arith, written_next (λ i. pos (get_or a.numbers.now i 0)) (λ _. pos 0) _ _ (omega (arith, room (goal.at.loop-k-preserved c).In-loop-k)) (omega (arith, c.requires.sums_in_bounds)) l.invariant.1 refl (to_z_pos w64 (omega (arith, c.type_inv.numbers l.k))))
+    (omega arith, written_next (λ i. pos (get_or a.numbers.now i 0)) (λ _. pos 0) _ _ (omega (arith, room (goal.at.loop-k-preserved c).In-loop-k)) (omega (arith, c.requires.sums_in_bounds)) l.invariant.1 refl (read_back {n = 4294967295} w64 (record { same = c.from.ensures; bound = record { within = omega (arith, c.type_inv.numbers l.k) } }) tt))
 
 pub shape_of-work : goal.shape_of-work
 shape_of-work c = c.loop-k.invariant.1.long
