@@ -1,6 +1,7 @@
 // One line for a call: it runs on a copy of the buffers that it is given, and tells what it answered and what it left.
-use super::show;
-use rules::{Face, Shape, Way};
+use super::show::{self, Answer, FieldLeft, WindsLeft};
+use rules::{Face, Refusal, Shape, Way};
+use std::{fmt, io};
 
 // An element of a tracer.
 #[derive(Clone, Copy)]
@@ -11,139 +12,156 @@ pub(crate) struct Place {
 }
 
 pub(crate) fn at(tracer: usize, i: usize, j: usize) -> Place {
-    Place {
-        tracer: tracer,
-        i: i,
-        j: j,
-    }
+    Place { tracer, i, j }
 }
 
-pub(crate) fn east(i: usize, j: usize, wind: i16) -> Face {
-    Face {
-        way: Way::East,
-        i: i,
-        j: j,
-        wind: wind,
-    }
-}
-
-pub(crate) fn north(i: usize, j: usize, wind: i16) -> Face {
-    Face {
-        way: Way::North,
-        i: i,
-        j: j,
-        wind: wind,
-    }
+pub(crate) fn face(way: Way, i: usize, j: usize, wind: i16) -> Face {
+    Face { way, i, j, wind }
 }
 
 pub(crate) fn shape(nx: usize, ny: usize, tracers: usize) -> Shape {
-    Shape {
-        nx: nx,
-        ny: ny,
-        tracers: tracers,
+    Shape { nx, ny, tracers }
+}
+
+// A call that changes one element, and its amount.
+#[derive(Clone, Copy)]
+pub(crate) enum Change {
+    Emission(u64),
+    Withdrawal(u64),
+}
+
+impl Change {
+    pub(crate) fn call(self, field: &mut [u32], shape: Shape, place: Place) -> Result<(), Refusal> {
+        let Place { tracer, i, j } = place;
+        match self {
+            Change::Emission(q) => field::emission(field, shape, tracer, i, j, q),
+            Change::Withdrawal(q) => field::withdrawal(field, shape, tracer, i, j, q),
+        }
     }
 }
 
-// Whether a field buffer is unchanged, or else the readings at a place.
-fn field_left(before: &[u32], after: &[u32], shape: Shape, place: Place) {
-    if show::same_numbers(before, after) {
-        show::text(b", field unchanged");
-        return;
-    }
-    show::text(b", mass ");
-    show::reading(field::mass(after, shape, place.tracer, place.i, place.j));
-    show::text(b", total ");
-    show::reading(field::total(after, shape, place.tracer));
-}
-
-// Whether a wind buffer is unchanged, or else its numbers.
-fn winds_left(before: [i16; 5], after: [i16; 5]) {
-    if show::same_winds(before, after) {
-        show::text(b", winds unchanged");
-        return;
-    }
-    show::text(b", winds");
-    show::winds(after);
-}
-
-fn wind_front(edge: &[u8], face: Face) {
-    let way = face.way;
-    match way {
-        Way::East => show::front(b"east wind", edge),
-        Way::North => show::front(b"north wind", edge),
+impl fmt::Display for Change {
+    fn fmt<W: fmt::Write>(&self, f: &mut fmt::Formatter<W>) -> fmt::Result {
+        f.write_str(match self {
+            Change::Emission(_) => "emission",
+            Change::Withdrawal(_) => "withdrawal",
+        })
     }
 }
 
-pub(crate) fn wind(edge: &[u8], before: [i16; 5], shape: Shape, face: Face) {
+pub(crate) fn apply(
+    rt: &impl Print,
+    edge: &str,
+    before: [u32; 59],
+    shape: Shape,
+    place: Place,
+    change: Change,
+) -> io::Result<()> {
     let mut after = before;
-    let answer = field::wind(&mut after, shape, face);
-    wind_front(edge, face);
-    show::outcome(answer);
-    winds_left(before, after);
-    show::text(b"\n");
+    let answer = show::outcome(change.call(&mut after, shape, place));
+    let left = FieldLeft {
+        before: &before,
+        after: &after,
+        shape,
+        place,
+    };
+    println!(rt; "{change}, {edge}: {answer}{left}")
 }
 
-pub(crate) fn import(edge: &[u8], before: [i16; 5], shape: Shape, records: &[u8]) {
+pub(crate) fn wind(
+    rt: &impl Print,
+    edge: &str,
+    before: [i16; 5],
+    shape: Shape,
+    face: Face,
+) -> io::Result<()> {
     let mut after = before;
-    let answer = wind_import::import(&mut after, records, shape);
-    show::front(b"import", edge);
-    show::outcome(answer);
-    winds_left(before, after);
-    show::text(b"\n");
+    let answer = show::outcome(field::wind(&mut after, shape, face));
+    let way = match face.way {
+        Way::East => "east",
+        Way::North => "north",
+    };
+    let left = WindsLeft { before, after };
+    println!(rt; "{way} wind, {edge}: {answer}{left}")
 }
 
-pub(crate) fn fresh(edge: &[u8], before: [u32; 59], winds_before: [i16; 5], shape: Shape) {
+pub(crate) fn import(
+    rt: &impl Print,
+    edge: &str,
+    before: [i16; 5],
+    shape: Shape,
+    records: &[u8],
+) -> io::Result<()> {
+    let mut after = before;
+    let answer = show::outcome(wind_import::import(&mut after, records, shape));
+    let left = WindsLeft { before, after };
+    println!(rt; "import, {edge}: {answer}{left}")
+}
+
+pub(crate) fn fresh(
+    rt: &impl Print,
+    edge: &str,
+    before: [u32; 59],
+    winds_before: [i16; 5],
+    shape: Shape,
+) -> io::Result<()> {
     let mut after = before;
     let mut winds_after = winds_before;
-    let answer = field::fresh(&mut after, &mut winds_after, shape);
-    show::front(b"fresh", edge);
-    show::outcome(answer);
-    field_left(&before, &after, shape, at(0, 0, 0));
-    winds_left(winds_before, winds_after);
-    show::text(b"\n");
+    let answer = show::outcome(field::fresh(&mut after, &mut winds_after, shape));
+    let left = FieldLeft {
+        before: &before,
+        after: &after,
+        shape,
+        place: at(0, 0, 0),
+    };
+    let winds = WindsLeft {
+        before: winds_before,
+        after: winds_after,
+    };
+    println!(rt; "fresh, {edge}: {answer}{left}{winds}")
 }
 
 pub(crate) fn load(
-    edge: &[u8],
+    rt: &impl Print,
+    edge: &str,
     before: [u32; 59],
     numbers: [u32; 26],
     shape: Shape,
     tracer: usize,
-) {
+) -> io::Result<()> {
     let mut after = before;
-    let answer = field::load(&mut after, &numbers, shape, tracer);
-    show::front(b"load", edge);
-    show::outcome(answer);
-    field_left(&before, &after, shape, at(tracer, 0, 0));
-    show::text(b"\n");
+    let answer = show::outcome(field::load(&mut after, &numbers, shape, tracer));
+    let left = FieldLeft {
+        before: &before,
+        after: &after,
+        shape,
+        place: at(tracer, 0, 0),
+    };
+    println!(rt; "load, {edge}: {answer}{left}")
 }
 
-pub(crate) fn emission(edge: &[u8], before: [u32; 59], shape: Shape, place: Place, q: u64) {
-    let mut after = before;
-    let answer = field::emission(&mut after, shape, place.tracer, place.i, place.j, q);
-    show::front(b"emission", edge);
-    show::outcome(answer);
-    field_left(&before, &after, shape, place);
-    show::text(b"\n");
+pub(crate) fn mass_at(field: &[u32], shape: Shape, place: Place) -> Result<u64, Refusal> {
+    field::mass(field, shape, place.tracer, place.i, place.j)
 }
 
-pub(crate) fn withdrawal(edge: &[u8], before: [u32; 59], shape: Shape, place: Place, q: u64) {
-    let mut after = before;
-    let answer = field::withdrawal(&mut after, shape, place.tracer, place.i, place.j, q);
-    show::front(b"withdrawal", edge);
-    show::outcome(answer);
-    field_left(&before, &after, shape, place);
-    show::text(b"\n");
+pub(crate) fn mass(
+    rt: &impl Print,
+    edge: &str,
+    numbers: [u32; 59],
+    shape: Shape,
+    place: Place,
+) -> io::Result<()> {
+    let answer = Answer(mass_at(&numbers, shape, place));
+    println!(rt; "mass, {edge}: {answer}")
 }
 
-pub(crate) fn mass(edge: &[u8], numbers: [u32; 59], shape: Shape, place: Place) {
-    show::front(b"mass", edge);
-    show::reading(field::mass(&numbers, shape, place.tracer, place.i, place.j));
-    show::text(b"\n");
-}
-
-pub(crate) fn total(edge: &[u8], numbers: [u32; 59], shape: Shape, tracer: usize) {
-    show::front(b"total", edge);
-    show::reading(field::total(&numbers, shape, tracer));
-    show::text(b"\n");
+pub(crate) fn total(
+    rt: &impl Print,
+    edge: &str,
+    numbers: [u32; 59],
+    shape: Shape,
+    tracer: usize,
+) -> io::Result<()> {
+    let answer = Answer(field::total(&numbers, shape, tracer));
+    println!(rt; "total, {edge}: {answer}")
 }

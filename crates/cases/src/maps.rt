@@ -1,29 +1,35 @@
-// Maps: pages at the edges of a block, and each refusal. A byte of a page that was not written is a question mark.
-use super::{buffers, calls, show};
+// Maps: pages at the edges of a block, and each refusal.
+use super::show::Answer;
+use super::{buffers, calls};
 use rules::Shape;
+use std::io;
 
-// Whether no byte of a page was written.
-fn untouched(page: &[u8]) -> bool {
-    for k in 0..page.len() {
-        if page[k] != 63 {
-            return false;
-        }
-    }
-    true
+// A byte of a page that was not written.
+const UNWRITTEN: u8 = b'?';
+
+pub(crate) fn run(rt: &impl Print) -> io::Result<()> {
+    pages(rt)?;
+    refusals(rt)?;
+    tracers(rt)?;
+    over_limit(rt)
 }
 
 // A map's answer, and its page.
-fn map(edge: &[u8], page: &mut [u8], field: &[u32], shape: Shape, tracer: usize) {
-    let answer = map::map(page, field, shape, tracer);
-    show::front(b"map", edge);
-    show::reading(answer);
-    if untouched(page) {
-        show::text(b", page unchanged\n");
-        return;
+fn map(
+    rt: &impl Print,
+    edge: &str,
+    page: &mut [u8],
+    field: &[u32],
+    shape: Shape,
+    tracer: usize,
+) -> io::Result<()> {
+    let answer = Answer(map::map(page, field, shape, tracer));
+    if page.iter().all(|&byte| byte == UNWRITTEN) {
+        return println!(rt; "map, {edge}: {answer}, page unchanged");
     }
-    show::text(b"\n");
-    show::text(page);
-    show::text(b"\n");
+    println!(rt; "map, {edge}: {answer}")?;
+    rt.write_all(page)?;
+    println!(rt; "")
 }
 
 // Masses 1, 2, .. in the remainders, and all that is left to 100,000,000 in the last of eight elements.
@@ -41,57 +47,61 @@ fn row() -> [u32; 80] {
 }
 
 // One column, a whole block, one column more, rows from the north on, and a page with surplus.
-pub(crate) fn pages() {
+fn pages(rt: &impl Print) -> io::Result<()> {
     let row = row();
-    map(b"1 by 1", &mut [63; 222], &row, calls::shape(1, 1, 1), 0);
-    map(b"7 by 1", &mut [63; 222], &row, calls::shape(7, 1, 1), 0);
-    map(b"8 by 1", &mut [63; 370], &row, calls::shape(8, 1, 1), 0);
-    rows();
+    let page = [UNWRITTEN; 444];
+    for (edge, length, shape, tracer) in [
+        ("1 by 1", 222, calls::shape(1, 1, 1), 0),
+        ("7 by 1", 222, calls::shape(7, 1, 1), 0),
+        ("8 by 1", 370, calls::shape(8, 1, 1), 0),
+        ("2 by 4", 444, calls::shape(2, 4, 1), 0),
+        ("1 by 1, tracer 7", 225, calls::shape(1, 1, 8), 7),
+    ] {
+        let mut page = page;
+        map(rt, edge, &mut page[..length], &row, shape, tracer)?;
+    }
+    Ok(())
 }
 
-fn rows() {
-    let row = row();
-    map(b"2 by 4", &mut [63; 444], &row, calls::shape(2, 4, 1), 0);
-    let eight = calls::shape(1, 1, 8);
-    map(b"1 by 1, tracer 7", &mut [63; 225], &row, eight, 7);
-}
-
-// Calls on the sample, and on a tracer 0 with a remainder 36, with a page of just the length that the shape of most cases needs.
-fn on_sample(edge: &[u8], shape: Shape) {
-    map(edge, &mut [63; 222], &buffers::sample(), shape, 0);
-}
-
-fn on_odd(edge: &[u8], tracer: usize) {
-    let field = buffers::remainder_36();
-    map(edge, &mut [63; 222], &field, buffers::pair(), tracer);
-}
-
-// The same with a page that is a byte too short.
-fn short(edge: &[u8], tracer: usize) {
-    let field = buffers::remainder_36();
-    map(edge, &mut [63; 221], &field, buffers::pair(), tracer);
-}
-
-// 2, and 4 for the field and for the page.
-pub(crate) fn refusals() {
-    on_sample(b"nx 0", calls::shape(0, 1, 2));
-    on_sample(b"ny 65", calls::shape(2, 65, 2));
-    on_sample(b"59 numbers for 60", buffers::three_tracers());
-    on_sample(b"64 by 64, 8 tracers", calls::shape(64, 64, 8));
-    short(b"221 bytes for 222", 1);
+// 2, and 4 for the field: calls on the sample, with a page of just the length that the shape of most cases needs; and 4 for the page.
+fn refusals(rt: &impl Print) -> io::Result<()> {
+    let sample = buffers::sample();
+    for (edge, shape) in [
+        ("nx 0", calls::shape(0, 1, 2)),
+        ("ny 65", calls::shape(2, 65, 2)),
+        ("59 numbers for 60", buffers::three_tracers()),
+        ("64 by 64, 8 tracers", calls::shape(64, 64, 8)),
+    ] {
+        map(rt, edge, &mut [UNWRITTEN; 222], &sample, shape, 0)?;
+    }
+    short(rt, "221 bytes for 222", 1)
 }
 
 // 6 of the named tracer alone, and 7; then two faults.
-pub(crate) fn tracers() {
-    on_odd(b"remainder 36", 0);
-    on_odd(b"remainder 36 in the other tracer", 1);
-    on_odd(b"tracer 2 of 2", 2);
-    short(b"remainder 36 and 221 bytes", 0);
-    short(b"tracer 2 of 2 and 221 bytes", 2);
+fn tracers(rt: &impl Print) -> io::Result<()> {
+    let odd = buffers::remainder_36();
+    let pair = buffers::pair();
+    for (edge, tracer) in [
+        ("remainder 36", 0),
+        ("remainder 36 in the other tracer", 1),
+        ("tracer 2 of 2", 2),
+    ] {
+        map(rt, edge, &mut [UNWRITTEN; 222], &odd, pair, tracer)?;
+    }
+    short(rt, "remainder 36 and 221 bytes", 0)?;
+    short(rt, "tracer 2 of 2 and 221 bytes", 2)
 }
 
-pub(crate) fn over_limit() {
-    let field = buffers::total_of(17);
+// A tracer 0 with a remainder 36, and a page that is a byte too short.
+fn short(rt: &impl Print, edge: &str, tracer: usize) -> io::Result<()> {
+    let odd = buffers::remainder_36();
     let pair = buffers::pair();
-    map(b"a total of 100000001", &mut [63; 222], &field, pair, 0);
+    map(rt, edge, &mut [UNWRITTEN; 221], &odd, pair, tracer)
+}
+
+fn over_limit(rt: &impl Print) -> io::Result<()> {
+    let over = buffers::total_of(17);
+    let pair = buffers::pair();
+    let edge = "a total of 100000001";
+    map(rt, edge, &mut [UNWRITTEN; 222], &over, pair, 0)
 }

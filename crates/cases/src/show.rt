@@ -1,104 +1,71 @@
-// Printing, and comparing a buffer with what it was.
-use rules::Refusal;
+// What a line is made of: an answer, numbers, and what a call left in the buffers.
+use super::calls::{self, Place};
+use rules::{Refusal, Shape};
+use std::fmt;
 
-// The number of standard output.
-const STDOUT: i32 = 1;
+// What a call answered: its result, or the number of its refusal.
+#[derive(Drop)]
+pub(crate) struct Answer<T>(pub(crate) Result<T, Refusal>);
 
-pub(crate) fn text(bytes: &[u8]) {
-    io::write_all(STDOUT, bytes);
-}
-
-pub(crate) fn number(n: u64) {
-    io::print_decimal(STDOUT, n);
-}
-
-// A line's front: which call, and what is at the edge.
-pub(crate) fn front(call: &[u8], edge: &[u8]) {
-    text(call);
-    text(b", ");
-    text(edge);
-    text(b": ");
-}
-
-fn refusal(r: Refusal) {
-    text(b"refused ");
-    number(u64::from(u8::from(r)));
-}
-
-pub(crate) fn outcome(answer: Result<(), Refusal>) {
-    match answer {
-        Ok(()) => text(b"accepted"),
-        Err(r) => refusal(r),
+impl<T: fmt::Display> fmt::Display for Answer<T> {
+    fn fmt<W: fmt::Write>(&self, f: &mut fmt::Formatter<W>) -> fmt::Result {
+        match &self.0 {
+            Ok(result) => write!(f, "{result}"),
+            Err(r) => write!(f, "refused {}", u8::from(*r)),
+        }
     }
 }
 
-pub(crate) fn reading(answer: Result<u64, Refusal>) {
-    match answer {
-        Ok(n) => number(n),
-        Err(r) => refusal(r),
-    }
-}
-
-fn wide_word(n: u32) -> u64 {
-    n as u64
+// The answer of a call that has no result.
+pub(crate) fn outcome(answer: Result<(), Refusal>) -> Answer<&'static str> {
+    Answer(answer.map(|()| "accepted"))
 }
 
 // Each number after a space.
-pub(crate) fn numbers(part: &[u32]) {
-    for k in 0..part.len() {
-        text(b" ");
-        number(wide_word(part[k]));
-    }
-}
+#[derive(Drop)]
+pub(crate) struct Numbers<'a, T>(pub(crate) &'a [T]);
 
-// A wind number's distance from 0.
-fn distance(c: i16) -> u64 {
-    if c < 0 { -(c as i64) as u64 } else { c as u64 }
-}
-
-// A wind number after a space.
-fn wind(c: i16) {
-    text(b" ");
-    if c < 0 {
-        text(b"-");
-    }
-    number(distance(c));
-}
-
-pub(crate) fn winds(all: [i16; 5]) {
-    wind(all[0]);
-    wind(all[1]);
-    wind(all[2]);
-    wind(all[3]);
-    wind(all[4]);
-}
-
-// Whether two field buffers are the same.
-pub(crate) fn same_numbers(a: &[u32], b: &[u32]) -> bool {
-    if a.len() != b.len() {
-        return false;
-    }
-    for k in 0..a.len() {
-        if a[k] != b[k] {
-            return false;
+impl<T: fmt::Display> fmt::Display for Numbers<'_, T> {
+    fn fmt<W: fmt::Write>(&self, f: &mut fmt::Formatter<W>) -> fmt::Result {
+        for n in self.0 {
+            write!(f, " {n}")?;
         }
+        Ok(())
     }
-    true
 }
 
-// Whether two wind buffers are the same.
-pub(crate) fn same_winds(a: [i16; 5], b: [i16; 5]) -> bool {
-    if a[0] != b[0] {
-        return false;
+// A field buffer after a call: unchanged, or else the readings at a place.
+#[derive(Drop)]
+pub(crate) struct FieldLeft<'a> {
+    pub(crate) before: &'a [u32],
+    pub(crate) after: &'a [u32],
+    pub(crate) shape: Shape,
+    pub(crate) place: Place,
+}
+
+impl fmt::Display for FieldLeft<'_> {
+    fn fmt<W: fmt::Write>(&self, f: &mut fmt::Formatter<W>) -> fmt::Result {
+        if self.before == self.after {
+            return f.write_str(", field unchanged");
+        }
+        let mass = calls::mass_at(self.after, self.shape, self.place);
+        let total = field::total(self.after, self.shape, self.place.tracer);
+        write!(f, ", mass {}, total {}", Answer(mass), Answer(total))
     }
-    if a[1] != b[1] {
-        return false;
+}
+
+// A wind buffer after a call: unchanged, or else its numbers.
+#[derive(Drop)]
+pub(crate) struct WindsLeft {
+    pub(crate) before: [i16; 5],
+    pub(crate) after: [i16; 5],
+}
+
+impl fmt::Display for WindsLeft {
+    fn fmt<W: fmt::Write>(&self, f: &mut fmt::Formatter<W>) -> fmt::Result {
+        if self.before == self.after {
+            return f.write_str(", winds unchanged");
+        }
+        write!(f, ", winds{}", Numbers(&self.after))
     }
-    if a[2] != b[2] {
-        return false;
-    }
-    if a[3] != b[3] {
-        return false;
-    }
-    a[4] == b[4]
 }
