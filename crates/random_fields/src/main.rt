@@ -8,16 +8,12 @@ use std::{env, fs, io};
 
 // One file: its name on a line, its lines after a step, and its pages.
 fn show(rt: &HostRuntime, name: &str, from: &mut File) -> io::Result<()> {
-    let mut file = [0u8; 65537];
-    let mut out = [0u8; 200000];
+    let mut file = [0u8; program_input::FILE];
     let n = program_input::fill(from, &mut file)?;
     let mut printed = rt.stdout();
-    printed.write_all(name.as_bytes())?;
-    printed.write_all(b"\n")?;
-    let end = output::print(&file[..n], &mut out);
-    printed.write_all(&out[..end])?;
-    let pages = output_maps::print(&file[..n], &mut out);
-    printed.write_all(&out[..pages])
+    writeln!(printed, "{name}")?;
+    program_input::print_file::<200000, _, _>(&mut printed, &file[..n], output::print)?;
+    program_input::print_file::<39072, _, _>(&mut printed, &file[..n], output_maps::print)
 }
 
 // The file of a name; one that cannot be opened is told on standard error.

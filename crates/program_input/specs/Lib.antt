@@ -1,0 +1,2 @@
+-- What a program prints.
+pub mod Printed
