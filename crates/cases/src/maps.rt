@@ -49,7 +49,6 @@ fn row() -> [u32; 80] {
 // One column, a whole block, one column more, rows from the north on, and a page with surplus.
 fn pages(rt: &impl Print) -> io::Result<()> {
     let row = row();
-    let page = [UNWRITTEN; 444];
     for (edge, length, shape, tracer) in [
         ("1 by 1", 222, calls::shape(1, 1, 1), 0),
         ("7 by 1", 222, calls::shape(7, 1, 1), 0),
@@ -57,7 +56,7 @@ fn pages(rt: &impl Print) -> io::Result<()> {
         ("2 by 4", 444, calls::shape(2, 4, 1), 0),
         ("1 by 1, tracer 7", 225, calls::shape(1, 1, 8), 7),
     ] {
-        let mut page = page;
+        let mut page = [UNWRITTEN; 444];
         map(rt, edge, &mut page[..length], &row, shape, tracer)?;
     }
     Ok(())
