@@ -28,7 +28,7 @@ pub fn emission(
 {
     let grid = Grid::try_from(shape)?;
     let sum = total_on(field, grid, tracer)?;
-    if !grid.has(i, j) {
+    if !field_layout::on_grid(grid.shape, i, j) {
         return Err(Refusal::NoSuchElement);
     }
     if LIMIT - sum < q {
@@ -115,7 +115,7 @@ pub fn wind(winds: &mut [i16], shape: Shape, face: Face) -> Result<(), Refusal>
     if !field_layout::wind_in_range(face.wind) {
         return Err(Refusal::WindOutOfRange);
     }
-    if !grid.has(face.i, face.j) {
+    if !field_layout::on_grid(grid.shape, face.i, face.j) {
         return Err(Refusal::NoSuchElement);
     }
     winds[grid.face_at(face)] = face.wind;

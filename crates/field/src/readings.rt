@@ -45,7 +45,7 @@ pub fn mass_on(field: &[u32], grid: Grid, tracer: usize, i: usize, j: usize) -> 
     ensures { answers result (mass_reading quadratic grid.shape tracer i j field.now) }
 {
     total_on(field, grid, tracer)?;
-    if !grid.has(i, j) {
+    if !field_layout::on_grid(grid.shape, i, j) {
         return Err(Refusal::NoSuchElement);
     }
     Ok(element_mass(field, grid, tracer, i, j))

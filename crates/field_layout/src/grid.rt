@@ -1,6 +1,6 @@
 // An admitted shape, and where its numbers stand in the buffers. The methods are leaves.
 ghost use Rattle.std.specs.Prelude.{◌≡◌, ◌*◌, ◌<◌};
-ghost use Rattle.rules.specs.Field.{quadratic, elements, faces, on_grid, elements_length, part_length, field_length, Admitted};
+ghost use Rattle.rules.specs.Field.{quadratic, elements, faces, elements_length, part_length, field_length, Admitted};
 ghost use Rattle.rules.specs.Grid.{face_index};
 ghost use Rattle.field_layout.specs.Places.{Inside, element_start};
 
@@ -32,13 +32,6 @@ impl TryFrom<Shape> for Grid {
 }
 
 impl Grid {
-    // Whether there is an element (i, j).
-    pub fn has(self, i: usize, j: usize) -> bool
-        ensures { result ≡ on_grid self.shape i j }
-    {
-        i < self.shape.nx && j < self.shape.ny
-    }
-
     // The elements of one tracer.
     pub fn elements(self) -> usize
         ensures { result ≡ elements self.shape }

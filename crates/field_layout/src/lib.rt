@@ -2,7 +2,7 @@
 #![tactic(auto)]
 
 ghost use Rattle.std.specs.Prelude.{◌≡◌};
-ghost use Rattle.rules.specs.Field.{from1to, admitted, wind_in_range};
+ghost use Rattle.rules.specs.Field.{from1to, admitted, on_grid, wind_in_range};
 
 use rules::Shape;
 
@@ -31,6 +31,13 @@ pub fn admitted(shape: Shape) -> bool
         return false;
     }
     from_1_to(8, shape.tracers)
+}
+
+// Whether there is an element (i, j).
+pub fn on_grid(shape: Shape, i: usize, j: usize) -> bool
+    ensures { result ≡ on_grid shape i j }
+{
+    i < shape.nx && j < shape.ny
 }
 
 // The least wind number.

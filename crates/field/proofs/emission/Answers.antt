@@ -21,22 +21,22 @@ use Rattle.rules.proofs.GridLaws.{element-lt}
 use Rattle.field.proofs.CheckLaws.{found, inside, call-refused, call-accepted, on_shape, call-bad-shape, emission-refused, emission-off-grid, emission-above, emission-accepted}
 use Rattle.field.proofs.InPlaceLaws.{mass-lent, emitted-lent, back-in-place}
 use Rattle.field.proofs.emission.Goals as goal
-use Rattle.field.proofs.emission.Goals.{After-element_start-start, After-emit-arg-1, Else-not-has, In_ok-sum}
+use Rattle.field.proofs.emission.Goals.{After-element_start-start, After-emit-arg-1, Else-not-on_grid, In_ok-sum}
 
 -- what the reading of the total says
 read : (c : In_ok-sum) → total_reading quadratic c.in_ok-grid.grid.shape c.args.tracer c.args.field.now ≡ accepted c.in_ok-sum.sum
 read c = sym c.in_ok-sum.ensures
 
-pub returns-then-not-has : goal.returns-then-not-has
-returns-then-not-has c = let a = c.args in
-    let g = c.in_ok-grid.grid.shape in on_shape a.tracer (emission a.i a.j a.q) a.field.now c.in_ok-grid.ensures.1 (call-refused g a.tracer (emission a.i a.j a.q) a.field.now 8 (emission-off-grid g a.tracer a.i a.j a.q a.field.now _ (read (goal.at.returns-then-not-has c).In_ok-sum) (sym c.has.ensures ∙ c.if-not-has.true)))
+pub returns-then-not-on_grid : goal.returns-then-not-on_grid
+returns-then-not-on_grid c = let a = c.args in
+    let g = c.in_ok-grid.grid.shape in on_shape a.tracer (emission a.i a.j a.q) a.field.now c.in_ok-grid.ensures.1 (call-refused g a.tracer (emission a.i a.j a.q) a.field.now 8 (emission-off-grid g a.tracer a.i a.j a.q a.field.now _ (read (goal.at.returns-then-not-on_grid c).In_ok-sum) (sym c.on_grid.ensures ∙ c.if-not-on_grid.true)))
 
-grid : (c : Else-not-has) → on_grid c.in_ok-grid.grid.shape c.args.i c.args.j ≡ true
-grid c = sym c.has.ensures ∙ c.if-not-has.false
+grid : (c : Else-not-on_grid) → on_grid c.in_ok-grid.grid.shape c.args.i c.args.j ≡ true
+grid c = sym c.on_grid.ensures ∙ c.if-not-on_grid.false
 
-within : (c : Else-not-has) → Inside c.in_ok-grid.grid.shape c.args.tracer c.args.i c.args.j
+within : (c : Else-not-on_grid) → Inside c.in_ok-grid.grid.shape c.args.tracer c.args.i c.args.j
 within c = let a = c.args in
-    let g = c.in_ok-grid.grid.shape in inside g a.tracer a.i a.j a.field.now _ (read c.before.before) (grid c)
+    let g = c.in_ok-grid.grid.shape in inside g a.tracer a.i a.j a.field.now _ (read c.before.before.before) (grid c)
 
 pub overflow_sub-sum : goal.overflow_sub-sum
 overflow_sub-sum c = let a = c.args in
@@ -47,17 +47,17 @@ returns-then-sum-q c =
     let a = c.args in
     let g = c.in_ok-grid.grid.shape in
     let h = found g a.tracer a.field.now _ (read (goal.at.returns-then-sum-q c).In_ok-sum) in
-    on_shape a.tracer (emission a.i a.j a.q) a.field.now c.in_ok-grid.ensures.1 (call-refused g a.tracer (emission a.i a.j a.q) a.field.now 9 (emission-above g a.tracer a.i a.j a.q a.field.now _ (read (goal.at.returns-then-sum-q c).In_ok-sum) (grid (goal.at.returns-then-sum-q c).Else-not-has) (omega (arith, c.if-sum-q.true, h.small))))
+    on_shape a.tracer (emission a.i a.j a.q) a.field.now c.in_ok-grid.ensures.1 (call-refused g a.tracer (emission a.i a.j a.q) a.field.now 9 (emission-above g a.tracer a.i a.j a.q a.field.now _ (read (goal.at.returns-then-sum-q c).In_ok-sum) (grid (goal.at.returns-then-sum-q c).Else-not-on_grid) (omega (arith, c.if-sum-q.true, h.small))))
 
 pub element_start-start-requires : goal.element_start-start-requires
-element_start-start-requires c = within (goal.at.element_start-start-requires c).Else-not-has
+element_start-start-requires c = within (goal.at.element_start-start-requires c).Else-not-on_grid
 
 -- the element ends within the field
 ends : (c : After-element_start-start) → (c.element_start-start.result + 10 ≤ length c.args.field.now) × (c.element_start-start.result + 10 ≤ 327680)
 ends c =
     let a = c.args in
     let g = c.in_ok-grid.grid.shape in
-    element-ends g a.tracer a.i a.j c.in_ok-grid.grid.admitted (within c.before.before) _ (found g a.tracer a.field.now _ (read c.before.before.before.before)).room _ c.element_start-start.ensures
+    element-ends g a.tracer a.i a.j c.in_ok-grid.grid.admitted (within c.before.before) _ (found g a.tracer a.field.now _ (read c.before.before.before.before.before)).room _ c.element_start-start.ensures
 
 pub overflow_add-end : goal.overflow_add-end
 overflow_add-end c = record { fits = omega (arith, ends (goal.at.overflow_add-end c).After-element_start-start) }
@@ -74,7 +74,7 @@ lent-mass c =
     let a = c.args in
     let g = c.in_ok-grid.grid.shape in
     let st = element_start g a.tracer a.i a.j in
-    rw c.element_start-start.ensures (mass-lent g a.tracer a.i a.j a.field.now (within c.before.before.before) (found g a.tracer a.field.now _ (read c.before.before.before.before.before)).room (st + 10 - st) (add-sub_cancel_left st 10))
+    rw c.element_start-start.ensures (mass-lent g a.tracer a.i a.j a.field.now (within c.before.before.before) (found g a.tracer a.field.now _ (read c.before.before.before.before.before.before)).room (st + 10 - st) (add-sub_cancel_left st 10))
 
 pub emit-requires : goal.emit-requires
 emit-requires c =
@@ -82,7 +82,7 @@ emit-requires c =
     let a = c.args in
     let g = c.in_ok-grid.grid.shape in
     let h = found g a.tracer a.field.now _ (read (goal.at.emit-requires c).In_ok-sum) in
-    let w = within (goal.at.emit-requires c).Else-not-has in
+    let w = within (goal.at.emit-requires c).Else-not-on_grid in
     record { part_len = part-size 10 r (r + 10 - r) a.field.now (add-sub_cancel_left r 10) (ends (goal.at.emit-requires c).After-element_start-start).0; q_bound = omega (arith, lent-mass (goal.at.emit-requires c).After-emit-arg-1, mass-le-total quadratic g (part quadratic g a.tracer a.field.now) (element g a.i a.j) (element-lt g a.i a.j w.column w.row), h.sum, h.small, c.if-sum-q.false) }
 
 pub returns-in_err-sum : goal.returns-in_err-sum
@@ -106,8 +106,8 @@ returns c =
     let g = c.in_ok-grid.grid.shape in
     let st = element_start g a.tracer a.i a.j in
     let h = found g a.tracer a.field.now _ (read (goal.at.returns c).In_ok-sum) in
-    let w = within (goal.at.returns c).Else-not-has in
-    let e = call-accepted g a.tracer (emission a.i a.j a.q) a.field.now _ (emission-accepted g a.tracer a.i a.j a.q a.field.now _ (read (goal.at.returns c).In_ok-sum) (grid (goal.at.returns c).Else-not-has) (omega (arith, c.if-sum-q.false, h.small))) in
+    let w = within (goal.at.returns c).Else-not-on_grid in
+    let e = call-accepted g a.tracer (emission a.i a.j a.q) a.field.now _ (emission-accepted g a.tracer a.i a.j a.q a.field.now _ (read (goal.at.returns c).In_ok-sum) (grid (goal.at.returns c).Else-not-on_grid) (omega (arith, c.if-sum-q.false, h.small))) in
     let k = st + 10 - st in
     let ten-is = add-sub_cancel_left st 10 in
     let x : c.emit.new.part ≡ emitted quadratic (element g a.i a.j) a.q (part quadratic g a.tracer a.field.now) =

@@ -13,7 +13,7 @@ use Rattle.field_layout.proofs.GridLaws.{refused-2}
 use Rattle.field_layout.proofs.PlaceLaws.{is-admitted}
 use Rattle.field.proofs.WindFreshLoad.{wind-on-shape, inside_of, wind-2, wind-4, wind-5, wind-8, wind-done}
 use Rattle.field.proofs.wind.Goals as goal
-use Rattle.field.proofs.wind.Goals.{After-face_at, After-struct_told-1, Else-not-has, Else-not-wind_in_range, Else-winds-faces}
+use Rattle.field.proofs.wind.Goals.{After-face_at, After-struct_told-1, Else-not-on_grid, Else-not-wind_in_range, Else-winds-faces}
 
 pub returns-in_err-grid : goal.returns-in_err-grid
 returns-in_err-grid c =
@@ -32,8 +32,8 @@ room c = omega (arith, c.faces.ensures)
 range : (c : Else-not-wind_in_range) → wind_in_range c.args.face.wind ≡ true
 range c = ap wind_in_range (sym ((let h : to_z w16 (of_z w16 c.args.face.wind) ≡ c.args.face.wind = search rules in h))) ∙ sym c.wind_in_range.ensures ∙ c.if-not-wind_in_range.false
 
-grid : (c : Else-not-has) → on_grid c.in_ok-grid.grid.shape c.args.face.i c.args.face.j ≡ true
-grid c = sym c.has.ensures ∙ c.if-not-has.false
+grid : (c : Else-not-on_grid) → on_grid c.in_ok-grid.grid.shape c.args.face.i c.args.face.j ≡ true
+grid c = sym c.on_grid.ensures ∙ c.if-not-on_grid.false
 
 pub returns-then-winds-faces : goal.returns-then-winds-faces
 returns-then-winds-faces c = wind-on-shape c.args.face c.args.winds.now c.in_ok-grid.ensures.1 (wind-4 _ _ _ (is-admitted _ c.in_ok-grid.grid.admitted) (omega (arith, c.faces.ensures)))
@@ -41,17 +41,17 @@ returns-then-winds-faces c = wind-on-shape c.args.face c.args.winds.now c.in_ok-
 pub returns-then-not-wind_in_range : goal.returns-then-not-wind_in_range
 returns-then-not-wind_in_range c = wind-on-shape c.args.face c.args.winds.now c.in_ok-grid.ensures.1 (wind-5 _ _ _ (is-admitted _ c.in_ok-grid.grid.admitted) (room (goal.at.returns-then-not-wind_in_range c).Else-winds-faces) (ap wind_in_range (sym (whole (goal.at.returns-then-not-wind_in_range c).After-struct_told-1)) ∙ sym c.wind_in_range.ensures ∙ c.if-not-wind_in_range.true))
 
-pub returns-then-not-has : goal.returns-then-not-has
-returns-then-not-has c = wind-on-shape c.args.face c.args.winds.now c.in_ok-grid.ensures.1 (wind-8 _ _ _ (is-admitted _ c.in_ok-grid.grid.admitted) (room (goal.at.returns-then-not-has c).Else-winds-faces) (range (goal.at.returns-then-not-has c).Else-not-wind_in_range) (sym c.has.ensures ∙ c.if-not-has.true))
+pub returns-then-not-on_grid : goal.returns-then-not-on_grid
+returns-then-not-on_grid c = wind-on-shape c.args.face c.args.winds.now c.in_ok-grid.ensures.1 (wind-8 _ _ _ (is-admitted _ c.in_ok-grid.grid.admitted) (room (goal.at.returns-then-not-on_grid c).Else-winds-faces) (range (goal.at.returns-then-not-on_grid c).Else-not-wind_in_range) (sym c.on_grid.ensures ∙ c.if-not-on_grid.true))
 
 pub face_at-requires : goal.face_at-requires
-face_at-requires c = inside_of _ _ _ (is-admitted _ c.in_ok-grid.grid.admitted) (grid (goal.at.face_at-requires c).Else-not-has)
+face_at-requires c = inside_of _ _ _ (is-admitted _ c.in_ok-grid.grid.admitted) (grid (goal.at.face_at-requires c).Else-not-on_grid)
 
 -- the face stands within the wind
 inside : (c : After-face_at) → c.face_at.result < length c.args.winds.now
 inside c =
     let a = c.args in
-    let h = inside_of c.in_ok-grid.grid.shape a.face.i a.face.j ((is-admitted _ c.in_ok-grid.grid.admitted)) ((let h : on_grid c.in_ok-grid.grid.shape c.args.face.i c.args.face.j ≡ true = sym c.has.ensures ∙ c.if-not-has.false in h)) in
+    let h = inside_of c.in_ok-grid.grid.shape a.face.i a.face.j ((is-admitted _ c.in_ok-grid.grid.admitted)) ((let h : on_grid c.in_ok-grid.grid.shape c.args.face.i c.args.face.j ≡ true = sym c.on_grid.ensures ∙ c.if-not-on_grid.false in h)) in
     omega (arith, c.face_at.ensures, (let h : faces c.in_ok-grid.grid.shape ≤ length c.args.winds.now = omega (arith, c.faces.ensures) in h), face-lt c.in_ok-grid.grid.shape a.face.way a.face.i a.face.j h.column h.row)
 
 pub offset_bounds-winds-face_at : goal.offset_bounds-winds-face_at
@@ -61,4 +61,4 @@ pub bounds-winds-face_at : goal.bounds-winds-face_at
 bounds-winds-face_at c = inside (goal.at.bounds-winds-face_at c).After-face_at
 
 pub returns : goal.returns
-returns c = let a = c.args in wind-on-shape a.face a.winds.now c.in_ok-grid.ensures.1 (rw (c.face_at.ensures, whole (goal.at.returns c).After-struct_told-1) (wind-done c.in_ok-grid.grid.shape a.face a.winds.now (is-admitted _ c.in_ok-grid.grid.admitted) (room (goal.at.returns c).Else-winds-faces) (range (goal.at.returns c).Else-not-wind_in_range) (grid (goal.at.returns c).Else-not-has)))
+returns c = let a = c.args in wind-on-shape a.face a.winds.now c.in_ok-grid.ensures.1 (rw (c.face_at.ensures, whole (goal.at.returns c).After-struct_told-1) (wind-done c.in_ok-grid.grid.shape a.face a.winds.now (is-admitted _ c.in_ok-grid.grid.admitted) (room (goal.at.returns c).Else-winds-faces) (range (goal.at.returns c).Else-not-wind_in_range) (grid (goal.at.returns c).Else-not-on_grid)))
