@@ -70,12 +70,6 @@ pub weighted-next : (v : ℕ → ℕ) (k w x s : ℕ) → w ≡ quadratic.weight
 weighted-next v k w x s a b c = rw (a, b, c) (sym (sum_more k (λ k. quadratic.weight k * v k)))
 
 -- ---- after levelling and truncation
-pub cut_is : (z : ℤ) → int_max z (pos 0) ≡ pos (positive z)
-unfolding positive
-cut_is (pos zero) = refl
-cut_is (pos (suc n)) = cond_yes (ltb 0 (suc n)) _ _ (lt→ltb 0 (suc n) (omega arith))
-cut_is (negsuc n) = refl
-
 module _ (l : List ℤ) (s : ℤ) where
   abbrev pub cut_value : ℕ → ℕ
   cut_value = truncated (shifted l s)

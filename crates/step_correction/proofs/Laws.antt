@@ -6,13 +6,13 @@ use native.Mathlib.Nat.{mul-zero, mul_comm, mul-le-mul_left, zero-div, le_refl, 
 use native.Mathlib.Omega.{arith}
 use borrow.Author.Tests.{le-leb, lt-leb, leb-true, leb-false}
 use lib.Dec.{leb, nleb→lt}
-use lib.IntN.{ℤ, pos, negsuc, neg_ℤ, nat_abs, ◌+ℤ◌, ◌-ℤ◌, ◌*ℤ◌}
-use lib.Signed.{le_z, quot_z, ◌≤ℤ◌, ◌<ℤ◌}
+use lib.IntN.{ℤ, pos, negsuc, neg_ℤ, nat_abs, ◌+ℤ◌, ◌*ℤ◌}
+use lib.Signed.{le_z, quot_z, ◌≤ℤ◌}
 use Rattle.whole.specs.Bound.{Within, Are}
 use mir.Syntax.{w64}
 use mir.Val.{to_z, of_z}
 use Rattle.whole.proofs.Sizes.{exacts, bounded}
-use Rattle.whole.specs.Parts.{positive, negative}
+use Rattle.whole.specs.Parts.{positive}
 use Rattle.whole.proofs.WholeLaws.{above-positive}
 use Rattle.whole.proofs.Cases.{cond_ind}
 use mathlib.Core.List.{List}
@@ -24,17 +24,6 @@ use Rattle.rules.specs.Field.{quadratic, element_length, cell, remainder, weight
 use Rattle.rules.specs.Limiter.{rescaled}
 use Rattle.rules.specs.Correction.{with_sign, cut}
 use Rattle.rules.specs.Sizes.{flux_size, outflow_size}
-
--- ---- the parts
-pub negative-below : (z : ℤ) → z <ℤ pos 0 → pos 0 -ℤ z ≡ pos (negative z)
-unfolding negative
-negative-below (pos n) h = let k : n < 0 = lib.Dec.ltb→lt n 0 h.lt in let f : ⊥ = omega arith in absurd f
-negative-below (negsuc n) h = ap pos (omega arith)
-
-pub negative-above : (z : ℤ) → pos 0 ≤ℤ z → negative z ≡ 0
-unfolding negative
-negative-above (pos n) h = refl
-negative-above (negsuc n) h = absurd h.le
 
 -- ---- the cut
 sign_kept : (z : ℤ) → with_sign z (nat_abs z) ≡ z

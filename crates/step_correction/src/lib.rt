@@ -23,10 +23,7 @@ fn positive(x: i64) -> i64
     requires { Within flux_size x }
     ensures { Are flux_size result (pos (positive x)) }
 {
-    if x < 0 {
-        return 0;
-    }
-    x
+    x.max(0)
 }
 
 // -x where x is below 0, else 0.
@@ -34,10 +31,7 @@ fn negative(x: i64) -> i64
     requires { Within flux_size x }
     ensures { Are flux_size result (pos (negative x)) }
 {
-    if x < 0 {
-        return 0 - x;
-    }
-    0
+    (-x).max(0)
 }
 
 // An element's outflow by its four sides, from the fluxes of all faces.

@@ -3,12 +3,14 @@ use mathlib.Core.Path.{◌≡◌, refl, sym, ap, ◌∙◌}
 use Prim.Native.Nat.{ℕ, zero, suc, ◌+◌, ◌*◌, ◌-◌, ◌/◌, ◌≤◌, ◌<◌}
 use native.Mathlib.Nat.{mul-zero, div-add-mod, mod-lt, mul-suc}
 use native.Mathlib.Omega.{arith}
-use lib.Dec.{ltb, le→leb, ltb→lt, nltb→le}
+use borrow.Author.Tests.{lt-ltb}
+use lib.Dec.{ltb, le→leb, lt→ltb, ltb→lt, nltb→le}
 use lib.IntN.{ℤ, pos, negsuc, neg_ℤ, nat_abs, sub_ℕ, ◌+ℤ◌, ◌-ℤ◌, ◌*ℤ◌}
 use lib.Signed.{◌≤ℤ◌, ◌<ℤ◌}
+use Rattle.std.specs.Int.{int_max}
 use Rattle.whole.specs.Parts.{positive, negative}
 use Rattle.whole.specs.Bound.{floor_div}
-use Rattle.whole.proofs.Cases.{cond_ind}
+use Rattle.whole.proofs.Cases.{cond_ind, cond_yes}
 
 pub positive-pos : (n : ℕ) → positive (pos n) ≡ n
 unfolding positive
@@ -151,3 +153,27 @@ above-positive (negsuc n) h = absurd h.le
 
 pub positive-le : (z : ℤ) → positive z ≤ nat_abs z
 positive-le z = omega (arith, abs-parts z)
+
+pub negative-le : (z : ℤ) → negative z ≤ nat_abs z
+negative-le z = omega (arith, abs-parts z)
+
+-- ---- the larger of a number and 0
+pub max-positive : (z : ℤ) → int_max z (pos 0) ≡ pos (positive z)
+unfolding positive
+max-positive (pos zero) = refl
+max-positive (pos (suc n)) = cond_yes (ltb 0 (suc n)) _ _ (lt→ltb 0 (suc n) (omega arith))
+max-positive (negsuc n) = refl
+
+zero-less : (z : ℤ) → pos 0 -ℤ z ≡ neg_ℤ z
+zero-less (pos zero) = refl
+zero-less (pos (suc n)) = let e : suc n - 1 ≡ n = omega arith in rw (lt-ltb 0 (suc n) (omega arith)) (ap negsuc e)
+zero-less (negsuc n) = ap pos (omega arith)
+
+negated : (z : ℤ) → int_max (neg_ℤ z) (pos 0) ≡ pos (negative z)
+unfolding negative
+negated (pos zero) = refl
+negated (pos (suc n)) = refl
+negated (negsuc n) = cond_yes (ltb 0 (suc n)) _ _ (lt→ltb 0 (suc n) (omega arith))
+
+pub max-negative : (z : ℤ) → int_max (pos 0 -ℤ z) (pos 0) ≡ pos (negative z)
+max-negative z = ap (λ x. int_max x (pos 0)) (zero-less z) ∙ negated z

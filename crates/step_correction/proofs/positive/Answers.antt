@@ -1,12 +1,18 @@
-use mathlib.Core.Path.{sym, ap}
+use mathlib.Core.Path.{◌≡◌, ap, ◌∙◌}
+use native.Mathlib.Omega.{arith}
 use lib.IntN.{pos}
-use Rattle.whole.proofs.FloorLaws.{less-yes, less-no}
-use Rattle.whole.proofs.Sizes.{exacts, exacts-wide, exact-test, bounded}
-use Rattle.whole.proofs.WholeLaws.{positive-below, above-positive}
+use mir.Syntax.{w64}
+use mir.Val.{to_z, of_z}
+use mir.Facts.{to_z-of_z}
+use Rattle.std.specs.Int.{int_max}
+use Rattle.whole.proofs.WholeLaws.{positive-le, max-positive}
 use Rattle.step_correction.proofs.positive.Goals as goal
 
-pub returns-then-x-lt0 : goal.returns-then-x-lt0
-returns-then-x-lt0 c = let h = c.requires in bounded (search exacts depth 20) tt tt (sym (ap pos (positive-below c.args.x (less-yes c.if-x-lt0.true (exact-test (search exacts-wide depth 20) tt)))))
-
 pub returns : goal.returns
-returns c = let h = c.requires in bounded (search exacts depth 20) tt tt (above-positive c.args.x (less-no c.if-x-lt0.false (exact-test (search exacts-wide depth 20) tt)))
+returns c =
+    let x = c.args.x in
+    let e : to_z w64 (of_z w64 x) ≡ x = to_z-of_z {w = w64} c.ranges.x in
+    record {
+      same = to_z-of_z {w = w64} (record { sfits = c.max.type_inv }) ∙ c.max.ensures.value ∙ ap (λ z. int_max z (pos 0)) e ∙ max-positive x;
+      bound = record { within = omega (arith, positive-le x, c.requires.within) };
+    }
