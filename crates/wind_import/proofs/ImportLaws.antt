@@ -8,14 +8,13 @@ use native.Mathlib.Numerals.{add-one}
 use native.Mathlib.Omega.{arith}
 use lib.Dec.{eqb}
 use lib.IntN.{ℤ}
-use lib.ListN.{length, drop, length-drop}
+use lib.ListN.{length, drop, length-append, length-drop}
 use lib.Seq.{drop-drop}
-use Rattle.whole.specs.Table.{blocks, overwrite}
+use Rattle.whole.specs.Table.{blocks, table, overwrite}
 use Rattle.whole.proofs.Cases.{true_of}
 use Rattle.whole.proofs.ListParts.{blocks-split}
-use Rattle.whole.specs.Written.{Written}
-use Rattle.whole.proofs.TableLaws.{blocks_more}
-use Rattle.whole.proofs.WrittenLaws.{written-front}
+use Rattle.whole.proofs.TableLaws.{blocks_more, length-table}
+use Rattle.whole.proofs.OverwriteLaws.{front-is}
 use Rattle.rules.specs.declared.Shape.{Shape}
 use Rattle.rules.specs.Answers.{Answer, accepted, refused, Check, check, answer, after}
 use Rattle.rules.specs.Field.{admitted, elements, faces}
@@ -129,8 +128,15 @@ module _ (g : Shape) (records : List ℕ) (wind : List ℤ) where
       unfolding wind_after
       import-refused k e = (e ∙ decided, sym (after-refused (wind_reply g (from_records records) wind) k (new_wind g (from_records records) wind) wind (sym (e ∙ decided))))
 
-      pub import-done : accepted tt ≡ records_reply records n → (new : List ℤ) → Written 0 n n (east_wind records) (north_wind records) wind new → Imports (accepted tt) new
+      -- both walks are done: over the first m faces stand the east winds, over the m after them the north winds
+      pub import-done : accepted tt ≡ records_reply records n → {m : ℕ} {easts norths rest : List ℤ} → m ≡ n → easts ≡ table m (east_wind records) → norths ≡ table m (north_wind records)
+          → rest ≡ drop n wind → Imports (accepted tt) (easts ++ (norths ++ drop n rest))
       unfolding wind_after new_wind record_winds
-      import-done e new w =
-          let laid = written-front w (omega arith) ∙ ap (λ m. overwrite 0 (record_winds records m) wind) count in
+      import-done e {m} {easts} {norths} {rest} mn en nn rn =
+          let east = table n (east_wind records) in
+          let north = table n (north_wind records) in
+          let size : n + n ≡ length (east ++ north) = simp length-append (omega (arith, length-table n (east_wind records), length-table n (north_wind records))) in
+          let laid : easts ++ (norths ++ drop n rest) ≡ overwrite 0 (record_winds records (elements g)) wind =
+          rw (en, nn, mn, rn) (sym (append_assoc east north (drop n (drop n wind))) ∙ ap (λ l. (east ++ north) ++ l) (drop-drop n n wind ∙ ap (λ i. drop i wind) size))
+          ∙ sym (front-is (east ++ north) wind) ∙ ap (λ i. overwrite 0 (record_winds records i) wind) count in
           (e ∙ decided, laid ∙ sym (after-accepted (wind_reply g (from_records records) wind) tt (new_wind g (from_records records) wind) wind (sym (e ∙ decided))))

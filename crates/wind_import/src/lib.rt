@@ -1,8 +1,8 @@
 // The import of wind records (document 02, 2026-01): two walks over the records, the first one checks, the second one writes.
 #![tactic(auto)]
 
-ghost use Rattle.std.specs.Prelude.{◌≡◌, ◌+◌, ◌≤◌, length};
-ghost use Rattle.whole.specs.Written.{Written};
+ghost use Rattle.std.specs.Prelude.{◌≡◌, length};
+ghost use Rattle.whole.specs.Table.{table};
 ghost use Rattle.rules.specs.Answers.{accepted, answer, answers};
 ghost use Rattle.rules.specs.Calls.{WindGives, from_records};
 ghost use Rattle.rules.specs.WindRecords.{east_wind, north_wind, all_record_checks};
@@ -26,19 +26,21 @@ fn check(records: &[u8], n: usize) -> Result<(), Refusal>
     }
 }
 
-// Writes the winds of n records that have passed. By place: of the numbers behind `easts.iter_mut().zip(norths)` a proof knows nothing afterwards.
-fn lay(wind: &mut [i16], records: &[u8], n: usize)
-    requires passed { accepted (tt {0}) ≡ answer (all_record_checks records.now n) tt }
-    requires room { n + n ≤ length wind.old }
-    ensures { Written 0 n n (east_wind records.now) (north_wind records.now) wind.old wind.new }
+// Writes the winds of the records, one for each east face and its north face; all of them have passed. The second half is written by place:
+// of the numbers behind `easts.iter_mut().zip(norths)` a proof knows nothing afterwards.
+fn lay(easts: &mut [i16], norths: &mut [i16], records: &[u8])
+    requires halves { length norths.old ≡ length easts.old }
+    requires passed { accepted (tt {0}) ≡ answer (all_record_checks records.now (length easts.old)) tt }
+    ensures east { easts.new ≡ table (length easts.old) (east_wind records.now) }
+    ensures north { norths.new ≡ table (length easts.old) (north_wind records.now) }
 {
     let mut left = records;
-    for e in 0..n {
+    for (e, east) in easts.iter_mut().enumerate() {
         let Ok((winds, rest)) = wind_records::first_winds(left) else {
             unreachable!(); // every record has passed
         };
-        wind[n + e] = winds.north;
-        wind[e] = winds.east;
+        *east = winds.east;
+        norths[e] = winds.north;
         left = rest;
     }
 }
@@ -53,6 +55,7 @@ pub fn import(wind: &mut [i16], records: &[u8], shape: Shape) -> Result<(), Refu
     }
     let n = grid.elements();
     check(records, n)?;
-    lay(wind, records, n);
+    let (easts, norths) = wind.split_at_mut(n);
+    lay(easts, &mut norths[..n], records);
     Ok(())
 }

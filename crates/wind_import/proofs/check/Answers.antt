@@ -2,6 +2,7 @@ use borrow.Author.Rules.{rules}
 use mathlib.Core.Path.{subst, ◌∙◌}
 use native.Mathlib.Omega.{arith}
 use Rattle.rules.proofs.AnswerLaws.{passed_on}
+use Rattle.wind_records.specs.Records.{winds_at}
 use Rattle.wind_import.proofs.ImportLaws.{Walked, walked_none, walked_more, walked-refused, bytes_left, none_left}
 use Rattle.wind_import.proofs.check.Goals as goal
 use Rattle.wind_import.proofs.check.Goals.{After-loop}
@@ -10,11 +11,11 @@ pub loop-init : goal.loop-init
 loop-init c = walked_none _
 
 pub loop-preserved : goal.loop-preserved
-loop-preserved c = walked_more _ _ _ c.loop.invariant _ _ c.in_ok-rest.ensures.winds _ c.in_ok-rest.ensures.rest
+loop-preserved c = walked_more _ _ _ c.loop.invariant (winds_at c.loop.left.now 0) c.in_ok-rest.field-0-0 (search rules) _ (search rules)
 
 pub returns-in_err-rest : goal.returns-in_err-rest
 returns-in_err-rest c =
-    passed_on c.from_residual.result _ c.from_residual.ensures.1 ∙ walked-refused _ _ _ c.loop.invariant _ _ _ c.loop-test.true c.in_err-rest.ensures.winds
+    passed_on c.from_residual.result _ c.from_residual.ensures.1 ∙ walked-refused _ _ _ c.loop.invariant (winds_at c.loop.left.now 0) _ _ c.loop-test.true (search rules)
 
 -- after the last record
 at-end : (c : After-loop) → Walked c.args.records.now c.args.n c.loop.left.now

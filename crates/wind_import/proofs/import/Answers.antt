@@ -29,4 +29,5 @@ returns-in_err-check c =
 
 pub returns : goal.returns
 returns c =
-    import-done _ _ _ c.in_ok-grid.ensures.0 (room (goal.at.returns c).Else-wind-faces) _ (c.elements-n.ensures ∙ ap elements c.in_ok-grid.ensures.1) c.in_ok-check.ensures _ c.lay.ensures
+    import-done _ _ _ c.in_ok-grid.ensures.0 (room (goal.at.returns c).Else-wind-faces) _ (c.elements-n.ensures ∙ ap elements c.in_ok-grid.ensures.1) c.in_ok-check.ensures
+    c.split_at_mut-easts.ensures.front_len c.lay.ensures.east c.lay.ensures.north c.split_at_mut-easts.ensures.back

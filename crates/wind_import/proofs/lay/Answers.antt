@@ -3,14 +3,13 @@ use mathlib.Core.Path.{◌≡◌, ◌∙◌}
 use native.Mathlib.Omega.{arith}
 use mir.Syntax.{w16}
 use mir.Val.{to_z, of_z}
-use Rattle.whole.proofs.WrittenLaws.{written_none, written-store}
-use Rattle.rules.specs.WindRecords.{east_wind, north_wind}
+use Rattle.field_elements.proofs.FillLaws.{filled_none, filled_next}
 use Rattle.wind_import.proofs.ImportLaws.{walked_none, walked_more, never-refused, winds-are}
 use Rattle.wind_import.proofs.lay.Goals as goal
 use Rattle.wind_import.proofs.lay.Goals.{In-Ok}
 
 pub loop-e-init : goal.loop-e-init
-loop-e-init c = record { walked = walked_none _; written = written_none _ _ _ _ _ }
+loop-e-init c = record { walked = walked_none _; east = filled_none (omega arith); north = filled_none (omega (arith, c.requires.halves)) }
 
 pub unreachable-requires : goal.unreachable-requires
 unreachable-requires c = never-refused _ _ _ c.loop-e.invariant.walked _ _ _ c.loop-e-test.true c.in_default.ensures.winds c.requires.passed
@@ -28,5 +27,6 @@ loop-e-preserved c =
     let w = winds-are _ _ _ c.loop-e.invariant.walked _ c.in-Ok.ensures.winds in
     record {
       walked = walked_more _ _ _ c.loop-e.invariant.walked _ _ c.in-Ok.ensures.winds _ c.in-Ok.ensures.rest;
-      written = written-store (east_wind c.args.records.now) (north_wind c.args.records.now) _ _ _ _ (omega arith) (omega arith) (omega arith) (omega (arith, c.requires.room)) c.loop-e.invariant.written (north-back at ∙ w.1) (east-back at ∙ w.0);
+      east = filled_next c.loop-e.invariant.east (omega arith) (east-back at ∙ w.0);
+      north = filled_next c.loop-e.invariant.north (omega arith) (north-back at ∙ w.1);
     }
