@@ -1,17 +1,14 @@
 -- The sums that the closing's loops keep are within bounds: every term by its value's size and its weight, and nine weights make 36.
 use mathlib.Core.Path.{◌≡◌, refl, sym, ap, subst, ◌∙◌}
 use mathlib.Core.List.{List}
-use Prim.Native.Nat.{ℕ, zero, suc, ◌+◌, ◌*◌, ◌≤◌, ◌<◌}
+use Prim.Native.Nat.{ℕ, ◌+◌, ◌*◌, ◌≤◌, ◌<◌}
 use native.Mathlib.Nat.{le_trans, mul-le-mul_left, mul-le-mul_right, one-mul}
 use native.Mathlib.Omega.{arith}
-use lib.IntN.{ℤ, pos, negsuc, ◌+ℤ◌, ◌*ℤ◌}
+use lib.IntN.{ℤ, pos, ◌+ℤ◌, ◌*ℤ◌}
 use lib.ListN.{length, take}
 use lib.Seq.{length-take-le, get_or-take}
-use lib.Dec.{ltb, lt→ltb}
 use mir.Syntax.{w64}
 use mir.Val.{to_z, of_z}
-use Rattle.std.specs.Int.{int_max}
-use Rattle.whole.proofs.Cases.{cond_yes}
 use Rattle.whole.proofs.Sizes.{back_is}
 use Rattle.whole.specs.Parts.{positive}
 use Rattle.whole.specs.Table.{at}

@@ -46,7 +46,7 @@ fn truncate(value: i64, shift: i64) -> u64
     ensures value { result ≡ positive (value +ℤ shift) }
     ensures upper_bound { result ≤ levelled_size }
 {
-    (value + shift).max(0) as u64
+    u64::try_from(value + shift).unwrap_or(0)
 }
 
 // The weighted sum P after levelling and truncation.

@@ -1,21 +1,30 @@
-use mathlib.Core.Path.{◌≡◌, ap, ◌∙◌}
+use mathlib.Core.Path.{◌≡◌, refl, subst, ◌∙◌}
+use Prim.Native.Nat.{ℕ, ◌^◌, ◌<◌}
 use native.Mathlib.Omega.{arith}
-use lib.IntN.{pos, nat_abs, ◌+ℤ◌}
+use lib.IntN.{ℤ, pos, negsuc, nat_abs, ◌+ℤ◌}
 use mir.Syntax.{w64}
 use mir.Val.{to_z, of_z}
-use mir.Facts.{to_z-of_z}
-use Rattle.std.specs.Int.{int_max}
+use Rattle.std.specs.Prelude.{Result, Ok, Err}
+use Rattle.std.specs.Int.{FitsUnsignedBits}
+use Rattle.std.specs.Result.{OkIff, result_unwrap_or}
 use Rattle.whole.specs.Parts.{positive}
 use Rattle.whole.proofs.BoundLaws.{within-add}
 use Rattle.whole.proofs.Sizes.{exacts, exact}
-use Rattle.whole.proofs.WholeLaws.{positive-le, max-positive}
+use Rattle.whole.proofs.WholeLaws.{positive-le}
 use Rattle.limiter.proofs.truncate.Goals as goal
+
+-- the u64 of a number, or 0 where there is none
+as-positive : {E : Type 0} (r : Result ℕ E) (z : ℤ) → nat_abs z < 2 ^ 64 → OkIff r (FitsUnsignedBits 64 z) (nat_abs z) → result_unwrap_or r 0 ≡ positive z
+unfolding positive
+as-positive (Ok x) (pos n) l h = h.1
+as-positive (Ok x) (negsuc n) l h = absurd h.0
+as-positive (Err e) (pos n) l h = absurd (h l)
+as-positive (Err e) (negsuc n) l h = refl
 
 pub returns : goal.returns
 returns c =
-    let v = c.requires.value in
-    let h = c.requires.shift.small in
     let z = c.args.value +ℤ c.args.shift in
     let sum : to_z w64 (of_z w64 (to_z w64 (of_z w64 c.args.value) +ℤ to_z w64 (of_z w64 c.args.shift))) ≡ z = exact (search exacts depth 20) tt in
-    let e : nat_abs (to_z w64 (of_z w64 c.max.result)) ≡ positive z = ap nat_abs (to_z-of_z {w = w64} (record { sfits = c.max.type_inv }) ∙ c.max.ensures.value ∙ ap (λ x. int_max x (pos 0)) sum ∙ max-positive z) in
-    record { value = e; upper_bound = omega (arith, e, positive-le z, (within-add v h).within) }
+    let small = (within-add c.requires.value c.requires.shift.small).within in
+    let e = c.unwrap_or.ensures ∙ as-positive c.try_from.result z (omega (arith, small)) (subst (λ y. OkIff c.try_from.result (FitsUnsignedBits 64 y) (nat_abs y)) sum c.try_from.ensures) in
+    record { value = e; upper_bound = omega (arith, e, positive-le z, small) }
