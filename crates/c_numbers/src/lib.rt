@@ -1,4 +1,6 @@
 // Answers and faces as the numbers that the C interface passes.
+// A number becomes an i64 by `as`: std has no `From` from u64 or usize, and Rattle proves that nothing is lost, so that a `try_from` would
+// add an unwrap that can never fail.
 #![tactic(auto)]
 
 ghost use Rattle.std.specs.Prelude.{◌≡◌, pos, neg_ℤ};
@@ -49,6 +51,7 @@ pub fn shape_or(answer: Result<Shape, Refusal>) -> i64
 }
 
 // The face of element (i, j) that looks east (way 0) or north (way 1). No grid has a column 64: any other way is no face.
+// The way is a byte, since that is what the C interface passes.
 pub fn face(way: u8, i: usize, j: usize, wind: i16) -> Face
     ensures { result ≡ face_of way i j wind }
 {

@@ -1,5 +1,6 @@
 // The closing of an element, in place: mean adjustment (document 01: levelling), truncation, mass aware rescaling.
-// Every function here is a leaf that other crates call with numbers which they have bounded.
+// Every function here is a leaf that other crates call with numbers which they have bounded. A u64 becomes an i64 or a u32 by `as`: std has no
+// `From` for it, and Rattle proves that nothing is lost, so that a `try_from` would add an unwrap that can never fail.
 #![tactic(auto)]
 
 ghost use Rattle.std.specs.Prelude.{◌≡◌, ◌*◌, ◌≤◌, ◌<◌, ◌^◌, pos, ◌+ℤ◌, ◌*ℤ◌, length};

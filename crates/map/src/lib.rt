@@ -19,5 +19,5 @@ pub fn map(page: &mut [u8], field: &[u32], shape: Shape, tracer: usize) -> Resul
     }
     let sum = field::total_on(field, grid, tracer)?;
     let end = map_lines::page(page, field, grid, tracer, sum);
-    Ok(end as u64)
+    Ok(end as u64) // by `as`: std has no `From` from usize to u64, and a `try_from` would add an unwrap that can never fail
 }

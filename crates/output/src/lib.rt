@@ -40,7 +40,7 @@ fn tracer(
     Ok(())
 }
 
-// The line of the grid, and every tracer's lines after its step.
+// The line of the grid, and every tracer's lines after its step. Counted, since each tracer's number is handed on.
 fn tracers(
     text: &mut Text,
     field: &mut [u32],

@@ -22,12 +22,13 @@ fn page(out: &mut [u8], field: &[u32], grid: Grid, tracer: usize) -> usize
     ensures { Added (page_length grid.shape) 0 (page_text quadratic grid.shape (part quadratic grid.shape tracer field.now)) out.old out.new result }
 {
     match map::map(out, field, grid.shape, tracer) {
-        Ok(n) => n as usize,
+        Ok(n) => n as usize, // by `as`: std has no `From` from u64 to usize, and a `try_from` would add an unwrap that can never fail
         Err(_) => 0,
     }
 }
 
-// The pages of all tracers, in order.
+// The pages of all tracers, in order. Counted, since each tracer's number is handed on, and with the place where the next page starts:
+// of pages that `chunks_exact_mut` has lent a proof knows nothing afterwards.
 fn pages(out: &mut [u8], field: &[u32], grid: Grid) -> usize
     requires sound_field { SoundField grid.shape field.now }
     requires shape_in_bounds { grid.shape.tracers * page_length grid.shape ≤ length out.old }

@@ -13,7 +13,7 @@ use std::io::{Read, Write};
 pub const FILE: usize = 65_537;
 
 // Reads until the buffer is full or the input ends, and answers how many bytes of the buffer are read: they are the input's first ones, where it
-// is known which these are, and fewer than the buffer has only where the input has no more.
+// is known which these are, and fewer than the buffer has only where the input has no more. A `while`, since the input says how far a turn reads.
 pub fn fill<R: Read>(input: &mut R, buffer: &mut [u8]) -> io::Result<usize>
     ensures within { IfOk result (λ n. n ≤ length buffer.new) }
     ensures bytes { IfOk result (λ n. Consumes (R.remaining input.old) (R.remaining input.new) (take n buffer.new)) }

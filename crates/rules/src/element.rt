@@ -34,5 +34,5 @@ pub fn node_weight(k: usize) -> u64
     requires { k < 9 }
     ensures { result ≡ quadratic.weight k }
 {
-    signed_weight(k) as u64
+    signed_weight(k) as u64 // by `as`: std has no `From` from i64 to u64, and a `try_from` would add an unwrap that can never fail
 }

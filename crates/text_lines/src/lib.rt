@@ -1,6 +1,6 @@
 // The lines that the program prints, each added to a text.
-// Every function here is a leaf: the text has room for the longest line. A place or a count becomes a u64 by `as`, since std has no `From`
-// for it.
+// Every function here is a leaf: the text has room for the longest line. A place or a count becomes a u64 by `as`: std has no `From` for it,
+// and a `try_from` would add an unwrap that can never fail.
 // `grid_line`, `refused_line` and `tracer_lines` are what the program calls.
 #![tactic(auto)]
 
@@ -114,7 +114,7 @@ impl TracerReport<'_> {
         }
     }
 
-    // All faces that look one way.
+    // All faces that look one way. Counted, since a row's number is printed.
     fn face_lines(&self, text: &mut Text, way: Way)
         requires { HasRoom (self.now.grid.shape.ny * (self.now.grid.shape.nx * 96)) text.old }
         ensures { Adds (self.now.grid.shape.ny * (self.now.grid.shape.nx * 96)) (face_lines self.now.grid.shape self.now.tracer way self.now.report.now) text.old text.new }

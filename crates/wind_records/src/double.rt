@@ -52,6 +52,7 @@ pub fn face_wind(x: f64) -> i16
     ensures { result ≡ capped_wind (to_bits binary64 x) }
 {
     let bits = x.to_bits();
+    // By `as`: std has no `From` from u64 to i16, and Rattle proves that nothing is lost, so that a `try_from` would add an unwrap that can never fail.
     let size = wind_size(bits) as i16;
     if SIGN <= bits { -size } else { size }
 }
