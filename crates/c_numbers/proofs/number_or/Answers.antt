@@ -1,11 +1,7 @@
 use mathlib.Core.Path.{ap}
-use native.Mathlib.Omega.{arith}
 use Rattle.rules.specs.Answers.{answered}
 use Rattle.c_numbers.proofs.NumberLaws.{number_is, refusal_is}
 use Rattle.c_numbers.proofs.number_or.Goals as goal
-
-pub overflow_cast-result : goal.overflow_cast-result
-overflow_cast-result c = let h = c.requires.small c.in-Ok.n (ap answered c.in-Ok.is) in record { sfits = omega arith }
 
 pub returns-in-Ok : goal.returns-in-Ok
 returns-in-Ok c = number_is _ _ c.requires (ap answered c.in-Ok.is)
