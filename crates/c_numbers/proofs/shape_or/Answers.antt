@@ -2,7 +2,6 @@ use mathlib.Core.Path.{ap}
 use Rattle.rules.specs.Answers.{answered}
 use Rattle.c_numbers.proofs.NumberLaws.{shape_is, shape-refusal-is}
 use Rattle.c_numbers.proofs.shape_or.Goals as goal
-use Rattle.c_numbers.proofs.shape_or.Goals.{In-Ok}
 
 pub returns-in-Ok : goal.returns-in-Ok
 returns-in-Ok c = shape_is _ c.in-Ok.shape c.requires (ap answered c.in-Ok.is)
