@@ -1,8 +1,8 @@
 // An admitted shape, and where its numbers stand in the buffers. The methods are leaves.
-ghost use Rattle.std.specs.Prelude.{◌≡◌, ◌*◌, ◌<◌};
+ghost use Rattle.std.specs.Prelude.{◌≡◌, ◌+◌, ◌*◌, ◌≤◌, ◌<◌};
 ghost use Rattle.rules.specs.Field.{quadratic, elements, faces, elements_length, part_length, field_length, Admitted};
 ghost use Rattle.rules.specs.Grid.{face_index};
-ghost use Rattle.field_layout.specs.Places.{Inside, element_start};
+ghost use Rattle.field_layout.specs.Places.{Inside, element_start, most_field};
 
 use rules::element::NUMBERS;
 use rules::{Face, Refusal, Shape, Way};
@@ -76,10 +76,12 @@ impl Grid {
         tracer * self.part_length()
     }
 
-    // Where element (i, j) of a tracer starts in the field.
+    // Where element (i, j) of a tracer starts in the field; its numbers end within the field.
     pub fn element_start(self, tracer: usize, i: usize, j: usize) -> usize
         requires { Inside self.shape tracer i j }
-        ensures { result ≡ element_start self.shape tracer i j }
+        ensures start { result ≡ element_start self.shape tracer i j }
+        ensures room { result + 10 ≤ field_length quadratic self.shape }
+        ensures small { result + 10 ≤ most_field }
     {
         self.tracer_start(tracer) + (j * self.shape.nx + i) * NUMBERS
     }

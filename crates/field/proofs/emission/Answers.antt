@@ -12,7 +12,6 @@ use Rattle.rules.specs.Answers.{accepted}
 use Rattle.rules.specs.Field.{quadratic, on_grid, element, mass, part}
 use Rattle.rules.specs.Calls.{total_reading, emitted}
 use Rattle.field_layout.specs.Places.{Inside, element_start}
-use Rattle.field_layout.proofs.PlaceLaws.{element-ends}
 use Rattle.whole.proofs.OverwriteLaws.{part-size}
 use Rattle.rules.specs.Calls.{emission, done}
 use Rattle.rules.proofs.CallLaws.{length-emitted}
@@ -53,20 +52,14 @@ pub element_start-start-requires : goal.element_start-start-requires
 element_start-start-requires c = within (goal.at.element_start-start-requires c).Else-not-on_grid
 
 -- the element ends within the field
-ends : (c : After-element_start-start) → (c.element_start-start.result + 10 ≤ length c.args.field.now) × (c.element_start-start.result + 10 ≤ 327680)
-ends c =
-    let a = c.args in
-    let g = c.in_ok-grid.grid.shape in
-    element-ends g a.tracer a.i a.j c.in_ok-grid.grid.admitted (within c.before.before) _ (found g a.tracer a.field.now _ (read c.before.before.before.before.before)).room _ c.element_start-start.ensures
-
-pub overflow_add-end : goal.overflow_add-end
-overflow_add-end c = record { fits = omega (arith, ends (goal.at.overflow_add-end c).After-element_start-start) }
+ends : (c : After-element_start-start) → c.element_start-start.result + 10 ≤ length c.args.field.now
+ends c = omega (arith, c.element_start-start.ensures.room, (found c.in_ok-grid.grid.shape c.args.tracer c.args.field.now _ (read c.before.before.before.before.before)).room)
 
 pub offset_bounds-field-start : goal.offset_bounds-field-start
 offset_bounds-field-start c = omega (arith, ends (goal.at.offset_bounds-field-start c).After-element_start-start)
 
 pub slice_bounds-emit-end : goal.slice_bounds-emit-end
-slice_bounds-emit-end c = omega (arith, ends (goal.at.slice_bounds-emit-end c).After-element_start-start)
+slice_bounds-emit-end c = ends (goal.at.slice_bounds-emit-end c).After-element_start-start
 
 -- what is lent holds the element's mass
 lent-mass : (c : After-emit-arg-1) → mass quadratic (take (c.element_start-start.result + 10 - c.element_start-start.result) (drop c.element_start-start.result c.args.field.now)) 0 ≡ mass quadratic (part quadratic c.in_ok-grid.grid.shape c.args.tracer c.args.field.now) (element c.in_ok-grid.grid.shape c.args.i c.args.j)
@@ -74,7 +67,7 @@ lent-mass c =
     let a = c.args in
     let g = c.in_ok-grid.grid.shape in
     let st = element_start g a.tracer a.i a.j in
-    rw c.element_start-start.ensures (mass-lent g a.tracer a.i a.j a.field.now (within c.before.before.before) (found g a.tracer a.field.now _ (read c.before.before.before.before.before.before)).room (st + 10 - st) (add-sub_cancel_left st 10))
+    rw c.element_start-start.ensures.start (mass-lent g a.tracer a.i a.j a.field.now (within c.before.before.before) (found g a.tracer a.field.now _ (read c.before.before.before.before.before.before)).room (st + 10 - st) (add-sub_cancel_left st 10))
 
 pub emit-requires : goal.emit-requires
 emit-requires c =
@@ -83,7 +76,7 @@ emit-requires c =
     let g = c.in_ok-grid.grid.shape in
     let h = found g a.tracer a.field.now _ (read (goal.at.emit-requires c).In_ok-sum) in
     let w = within (goal.at.emit-requires c).Else-not-on_grid in
-    record { part_len = part-size 10 r (r + 10 - r) a.field.now (add-sub_cancel_left r 10) (ends (goal.at.emit-requires c).After-element_start-start).0; q_bound = omega (arith, lent-mass (goal.at.emit-requires c).After-emit-arg-1, mass-le-total quadratic g (part quadratic g a.tracer a.field.now) (element g a.i a.j) (element-lt g a.i a.j w.column w.row), h.sum, h.small, c.if-sum-q.false) }
+    record { part_len = part-size 10 r (r + 10 - r) a.field.now (add-sub_cancel_left r 10) (ends (goal.at.emit-requires c).After-element_start-start); q_bound = omega (arith, lent-mass (goal.at.emit-requires c).After-emit-arg-1, mass-le-total quadratic g (part quadratic g a.tracer a.field.now) (element g a.i a.j) (element-lt g a.i a.j w.column w.row), h.sum, h.small, c.if-sum-q.false) }
 
 pub returns-in_err-sum : goal.returns-in_err-sum
 returns-in_err-sum c =
@@ -111,6 +104,6 @@ returns c =
     let k = st + 10 - st in
     let ten-is = add-sub_cancel_left st 10 in
     let x : c.emit.new.part ≡ emitted quadratic (element g a.i a.j) a.q (part quadratic g a.tracer a.field.now) =
-    c.emit.ensures ∙ (rw c.element_start-start.ensures (emitted-lent g a.tracer a.i a.j a.field.now w h.room k ten-is a.q)) in
+    c.emit.ensures ∙ (rw c.element_start-start.ensures.start (emitted-lent g a.tracer a.i a.j a.field.now w h.room k ten-is a.q)) in
     on_shape a.tracer (emission a.i a.j a.q) a.field.now c.in_ok-grid.ensures.1
-    (e.0, (rw c.element_start-start.ensures (back-in-place g a.tracer a.i a.j a.field.now w h.room k ten-is _ _ x (length-emitted quadratic (element g a.i a.j) a.q (part quadratic g a.tracer a.field.now)))) ∙ e.1)
+    (e.0, (rw c.element_start-start.ensures.start (back-in-place g a.tracer a.i a.j a.field.now w h.room k ten-is _ _ x (length-emitted quadratic (element g a.i a.j) a.q (part quadratic g a.tracer a.field.now)))) ∙ e.1)

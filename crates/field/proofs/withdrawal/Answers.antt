@@ -12,7 +12,6 @@ use Rattle.rules.specs.Field.{quadratic, element, mass, part}
 use Rattle.rules.specs.Calls.{withdrawal, done, mass_reading, withdrawn}
 use Rattle.rules.proofs.CallLaws.{length-withdrawn}
 use Rattle.field_layout.specs.Places.{element_start}
-use Rattle.field_layout.proofs.PlaceLaws.{element-ends}
 use Rattle.whole.proofs.OverwriteLaws.{part-size}
 use Rattle.field.proofs.CheckLaws.{Held, held, call-refused, call-accepted, on_shape, call-bad-shape, withdrawal-refused, withdrawal-over, withdrawal-accepted}
 use Rattle.field.proofs.InPlaceLaws.{mass-lent, withdrawn-lent, back-in-place}
@@ -35,21 +34,14 @@ pub element_start-start-requires : goal.element_start-start-requires
 element_start-start-requires c = (known (goal.at.element_start-start-requires c).In_ok-held).within
 
 -- the element ends within the field
-ends : (c : After-element_start-start) → (c.element_start-start.result + 10 ≤ length c.args.field.now) × (c.element_start-start.result + 10 ≤ 327680)
-ends c =
-    let a = c.args in
-    let g = c.in_ok-grid.grid.shape in
-    let k = known c.before.before in
-    element-ends g a.tracer a.i a.j c.in_ok-grid.grid.admitted k.within _ k.room _ c.element_start-start.ensures
-
-pub overflow_add-end : goal.overflow_add-end
-overflow_add-end c = record { fits = omega (arith, ends (goal.at.overflow_add-end c).After-element_start-start) }
+ends : (c : After-element_start-start) → c.element_start-start.result + 10 ≤ length c.args.field.now
+ends c = omega (arith, c.element_start-start.ensures.room, (known c.before.before).room)
 
 pub offset_bounds-field-start : goal.offset_bounds-field-start
 offset_bounds-field-start c = omega (arith, ends (goal.at.offset_bounds-field-start c).After-element_start-start)
 
 pub slice_bounds-withdraw-end : goal.slice_bounds-withdraw-end
-slice_bounds-withdraw-end c = omega (arith, ends (goal.at.slice_bounds-withdraw-end c).After-element_start-start)
+slice_bounds-withdraw-end c = ends (goal.at.slice_bounds-withdraw-end c).After-element_start-start
 
 pub withdraw-requires : goal.withdraw-requires
 withdraw-requires c =
@@ -59,8 +51,8 @@ withdraw-requires c =
     let r = c.element_start-start.result in
     let st = element_start g a.tracer a.i a.j in
     let m : mass quadratic (take (r + 10 - r) (drop r a.field.now)) 0 ≡ mass quadratic (part quadratic g a.tracer a.field.now) (element g a.i a.j) =
-    rw c.element_start-start.ensures (mass-lent g a.tracer a.i a.j a.field.now k.within k.room (st + 10 - st) (add-sub_cancel_left st 10)) in
-    record { part_len = part-size 10 r (r + 10 - r) a.field.now (add-sub_cancel_left r 10) (ends (goal.at.withdraw-requires c).After-element_start-start).0; part_bound = omega (arith, m, k.is, k.small); q_bound = omega (arith, m, k.is, c.if-held-q.false) }
+    rw c.element_start-start.ensures.start (mass-lent g a.tracer a.i a.j a.field.now k.within k.room (st + 10 - st) (add-sub_cancel_left st 10)) in
+    record { part_len = part-size 10 r (r + 10 - r) a.field.now (add-sub_cancel_left r 10) (ends (goal.at.withdraw-requires c).After-element_start-start); part_bound = omega (arith, m, k.is, k.small); q_bound = omega (arith, m, k.is, c.if-held-q.false) }
 
 pub returns-in_err-held : goal.returns-in_err-held
 returns-in_err-held c =
@@ -87,6 +79,6 @@ returns c =
     let ten-is = add-sub_cancel_left st 10 in
     let e = call-accepted g a.tracer (withdrawal a.i a.j a.q) a.field.now _ (withdrawal-accepted g a.tracer a.i a.j a.field.now a.q _ (read (goal.at.returns c).In_ok-held) c.if-held-q.false) in
     let x : c.withdraw.new.part ≡ withdrawn quadratic (element g a.i a.j) a.q (part quadratic g a.tracer a.field.now) =
-    c.withdraw.ensures ∙ (rw c.element_start-start.ensures (withdrawn-lent g a.tracer a.i a.j a.field.now k.within k.room n ten-is a.q)) in
+    c.withdraw.ensures ∙ (rw c.element_start-start.ensures.start (withdrawn-lent g a.tracer a.i a.j a.field.now k.within k.room n ten-is a.q)) in
     on_shape a.tracer (withdrawal a.i a.j a.q) a.field.now c.in_ok-grid.ensures.1
-    (e.0, (rw c.element_start-start.ensures (back-in-place g a.tracer a.i a.j a.field.now k.within k.room n ten-is _ _ x (length-withdrawn quadratic (element g a.i a.j) a.q (part quadratic g a.tracer a.field.now)))) ∙ e.1)
+    (e.0, (rw c.element_start-start.ensures.start (back-in-place g a.tracer a.i a.j a.field.now k.within k.room n ten-is _ _ x (length-withdrawn quadratic (element g a.i a.j) a.q (part quadratic g a.tracer a.field.now)))) ∙ e.1)

@@ -2,7 +2,7 @@ use mathlib.Core.Path.{sym, ap, ◌∙◌}
 use native.Mathlib.Omega.{arith}
 use Prim.Native.Nat.{◌+◌, ◌*◌}
 use Rattle.rules.specs.Field.{element}
-use Rattle.field_layout.proofs.PlaceLaws.{index-small, element-room, start_is, field-le, field_is}
+use Rattle.field_layout.proofs.PlaceLaws.{index-small, element-room, element-ends, start_is, field-le, field_is}
 use Rattle.field_layout.proofs.grid.Grid.element_start.Goals as goal
 
 pub overflow_add-result-2 : goal.overflow_add-result-2
@@ -14,7 +14,10 @@ overflow_add-result-2 c =
 pub returns : goal.returns
 returns c =
     let a = c.args in
-    ap (λ n. n + element a.self.shape a.i a.j * 10) c.tracer_start.ensures ∙ sym (start_is a.self.shape a.tracer a.i a.j)
+    let g = a.self.shape in
+    let e = ap (λ n. n + element g a.i a.j * 10) c.tracer_start.ensures ∙ sym (start_is g a.tracer a.i a.j) in
+    let ends = element-ends g a.tracer a.i a.j a.self.admitted c.requires _ (omega arith) _ e in
+    record { start = e; room = ends.0; small = ends.1 }
 
 pub tracer_start-requires : goal.tracer_start-requires
 tracer_start-requires c = c.requires.tracer
