@@ -172,6 +172,11 @@ module _ (g : Shape) (s : ℕ) (op : Operation Lent) (f : List ℕ) where
   unfolding call plain
   call-accepted r e = (sym (ap plain e), sym (after-accepted (call quadratic g s op f).reply r _ f e))
 
+-- a call that its grid refuses
+pub grid-refused : {g h : Shape} {f : List ℕ} {n : ℕ} (s : ℕ) (op : Operation Lent) → g ≡ h → (call quadratic g s op f).reply ≡ refused n
+    → (refused n ≡ plain (call quadratic h s op f).reply) × (f ≡ (call quadratic h s op f).field)
+grid-refused {g} {h} {f} {n} s op e r = on_shape s op f e (call-refused g s op f n r)
+
 module _ (g : Shape) (s i j q : ℕ) (f : List ℕ) where
   abbrev rest9 : List Check
   rest9 = check 8 (on_grid g i j) ∷ check 9 (leb (total quadratic g (part quadratic g s f) + q) limit) ∷ []

@@ -12,23 +12,21 @@ use Rattle.rules.specs.Answers.{accepted}
 use Rattle.rules.specs.Field.{quadratic, on_grid, element, mass, part}
 use Rattle.rules.specs.Calls.{total_reading, emitted}
 use Rattle.field_layout.specs.Places.{Inside, element_start}
-use Rattle.whole.proofs.OverwriteLaws.{part-size}
 use Rattle.rules.specs.Calls.{emission, done}
 use Rattle.rules.proofs.CallLaws.{length-emitted}
 use Rattle.rules.proofs.PartLaws.{mass-le-total}
 use Rattle.rules.proofs.GridLaws.{element-lt}
-use Rattle.field.proofs.CheckLaws.{found, inside, call-refused, call-accepted, on_shape, call-bad-shape, emission-refused, emission-off-grid, emission-above, emission-accepted}
+use Rattle.field.proofs.CheckLaws.{grid-refused, found, inside, call-refused, call-accepted, on_shape, call-bad-shape, emission-refused, emission-off-grid, emission-above, emission-accepted}
 use Rattle.field.proofs.InPlaceLaws.{mass-lent, emitted-lent, back-in-place}
 use Rattle.field.proofs.emission.Goals as goal
-use Rattle.field.proofs.emission.Goals.{After-element_start-start, After-emit-arg-1, Else-not-on_grid, In_ok-sum}
+use Rattle.field.proofs.emission.Goals.{After-element_start-start, Else-not-on_grid, In_ok-sum}
 
 -- what the reading of the total says
 read : (c : In_ok-sum) → total_reading quadratic c.in_ok-grid.grid.shape c.args.tracer c.args.field.now ≡ accepted c.in_ok-sum.sum
 read c = sym c.in_ok-sum.ensures
 
 pub returns-then-not-on_grid : goal.returns-then-not-on_grid
-returns-then-not-on_grid c = let a = c.args in
-    let g = c.in_ok-grid.grid.shape in on_shape a.tracer (emission a.i a.j a.q) a.field.now c.in_ok-grid.ensures.1 (call-refused g a.tracer (emission a.i a.j a.q) a.field.now 8 (emission-off-grid g a.tracer a.i a.j a.q a.field.now _ (read (goal.at.returns-then-not-on_grid c).In_ok-sum) (sym c.on_grid.ensures ∙ c.if-not-on_grid.true)))
+returns-then-not-on_grid c = grid-refused _ _ c.in_ok-grid.ensures.1 (emission-off-grid _ _ _ _ _ _ _ (read (goal.at.returns-then-not-on_grid c).In_ok-sum) (sym c.on_grid.ensures ∙ c.if-not-on_grid.true))
 
 grid : (c : Else-not-on_grid) → on_grid c.in_ok-grid.grid.shape c.args.i c.args.j ≡ true
 grid c = sym c.on_grid.ensures ∙ c.if-not-on_grid.false
@@ -43,10 +41,9 @@ overflow_sub-sum c = let a = c.args in
 
 pub returns-then-sum-q : goal.returns-then-sum-q
 returns-then-sum-q c =
-    let a = c.args in
-    let g = c.in_ok-grid.grid.shape in
-    let h = found g a.tracer a.field.now _ (read (goal.at.returns-then-sum-q c).In_ok-sum) in
-    on_shape a.tracer (emission a.i a.j a.q) a.field.now c.in_ok-grid.ensures.1 (call-refused g a.tracer (emission a.i a.j a.q) a.field.now 9 (emission-above g a.tracer a.i a.j a.q a.field.now _ (read (goal.at.returns-then-sum-q c).In_ok-sum) (grid (goal.at.returns-then-sum-q c).Else-not-on_grid) (omega (arith, c.if-sum-q.true, h.small))))
+    let at = goal.at.returns-then-sum-q c in
+    let r = read at.In_ok-sum in
+    grid-refused _ _ c.in_ok-grid.ensures.1 (emission-above _ _ _ _ _ _ _ r (grid at.Else-not-on_grid) (omega (arith, c.if-sum-q.true, (found _ _ _ _ r).small)))
 
 pub element_start-start-requires : goal.element_start-start-requires
 element_start-start-requires c = within (goal.at.element_start-start-requires c).Else-not-on_grid
@@ -61,29 +58,24 @@ offset_bounds-field-start c = omega (arith, ends (goal.at.offset_bounds-field-st
 pub slice_bounds-emit-end : goal.slice_bounds-emit-end
 slice_bounds-emit-end c = ends (goal.at.slice_bounds-emit-end c).After-element_start-start
 
--- what is lent holds the element's mass
-lent-mass : (c : After-emit-arg-1) → mass quadratic (take (c.element_start-start.result + 10 - c.element_start-start.result) (drop c.element_start-start.result c.args.field.now)) 0 ≡ mass quadratic (part quadratic c.in_ok-grid.grid.shape c.args.tracer c.args.field.now) (element c.in_ok-grid.grid.shape c.args.i c.args.j)
-lent-mass c =
+-- what is lent holds the element's mass, which is part of the total
+pub emit-requires-clause-q_bound : goal.emit-requires-clause-q_bound
+emit-requires-clause-q_bound c =
     let a = c.args in
     let g = c.in_ok-grid.grid.shape in
-    let st = element_start g a.tracer a.i a.j in
-    rw c.element_start-start.ensures.start (mass-lent g a.tracer a.i a.j a.field.now (within c.before.before.before) (found g a.tracer a.field.now _ (read c.before.before.before.before.before.before)).room (st + 10 - st) (add-sub_cancel_left st 10))
-
-pub emit-requires : goal.emit-requires
-emit-requires c =
+    let at = goal.at.emit-requires-clause-q_bound c in
+    let h = found g a.tracer a.field.now _ (read at.In_ok-sum) in
+    let w = within at.Else-not-on_grid in
     let r = c.element_start-start.result in
-    let a = c.args in
-    let g = c.in_ok-grid.grid.shape in
-    let h = found g a.tracer a.field.now _ (read (goal.at.emit-requires c).In_ok-sum) in
-    let w = within (goal.at.emit-requires c).Else-not-on_grid in
-    record { part_len = part-size 10 r (r + 10 - r) a.field.now (add-sub_cancel_left r 10) (ends (goal.at.emit-requires c).After-element_start-start); q_bound = omega (arith, lent-mass (goal.at.emit-requires c).After-emit-arg-1, mass-le-total quadratic g (part quadratic g a.tracer a.field.now) (element g a.i a.j) (element-lt g a.i a.j w.column w.row), h.sum, h.small, c.if-sum-q.false) }
+    let st = element_start g a.tracer a.i a.j in
+    let m : mass quadratic (take (r + 10 - r) (drop r a.field.now)) 0 ≡ mass quadratic (part quadratic g a.tracer a.field.now) (element g a.i a.j) =
+    rw c.element_start-start.ensures.start (mass-lent g a.tracer a.i a.j a.field.now w h.room (st + 10 - st) (add-sub_cancel_left st 10)) in
+    omega (arith, m, mass-le-total quadratic g (part quadratic g a.tracer a.field.now) (element g a.i a.j) (element-lt g a.i a.j w.column w.row), h.sum, h.small, c.if-sum-q.false)
 
 pub returns-in_err-sum : goal.returns-in_err-sum
 returns-in_err-sum c =
-    let a = c.args in
-    let g = c.in_ok-grid.grid.shape in
     let r = c.from_residual-in_err-sum in
-    let e = on_shape a.tracer (emission a.i a.j a.q) a.field.now c.in_ok-grid.ensures.1 (call-refused g a.tracer (emission a.i a.j a.q) a.field.now _ (emission-refused g a.tracer a.i a.j a.q a.field.now _ (sym c.in_err-sum.ensures))) in
+    let e = grid-refused _ _ c.in_ok-grid.ensures.1 (emission-refused _ _ _ _ _ _ _ (sym c.in_err-sum.ensures)) in
     (passed_on r.result _ r.ensures.1 ∙ e.0, e.1)
 
 pub returns-in_err-grid : goal.returns-in_err-grid

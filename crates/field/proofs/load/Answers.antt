@@ -9,7 +9,6 @@ use Rattle.whole.specs.Table.{blocks}
 use Rattle.rules.specs.Field.{quadratic, elements, field_length, total}
 use Rattle.rules.specs.Calls.{load, loaded}
 use Rattle.rules.specs.Calls.{loaded_element}
-use Rattle.rules.proofs.ShapeLaws.{elements-le}
 use Rattle.rules.proofs.PartLaws.{part-is-elements}
 use Rattle.field_layout.proofs.PlaceLaws.{is-admitted, field-le, field_is, tracer-room, elements-are}
 use Rattle.whole.proofs.OverwriteLaws.{part-size}
@@ -41,27 +40,14 @@ summed c =
 pub returns-then-field-field_length : goal.returns-then-field-field_length
 returns-then-field-field_length c = on_shape c.args.tracer (load c.args.numbers.now) c.args.field.now c.in_ok-grid.ensures.1 (load-4-field _ _ _ _ (is-admitted _ c.in_ok-grid.grid.admitted) (omega (arith, c.field_length.ensures)))
 
--- the sizes of an admitted shape
-small : (c : After-elements-n) → c.elements-n.result ≤ 4096
-small c = let g = c.in_ok-grid.grid.shape in omega (arith, c.elements-n.ensures, elements-le g (c.in_ok-grid.grid.admitted))
-
-pub overflow_mul-n : goal.overflow_mul-n
-overflow_mul-n c = omega (arith, small (goal.at.overflow_mul-n c).After-elements-n)
-
 pub returns-then-numbers-n : goal.returns-then-numbers-n
 returns-then-numbers-n c = on_shape c.args.tracer (load c.args.numbers.now) c.args.field.now c.in_ok-grid.ensures.1 (load-4-numbers _ _ _ _ (is-admitted _ c.in_ok-grid.grid.admitted) (room (goal.at.returns-then-numbers-n c).Else-field-field_length) (omega (arith, c.elements-n.ensures)))
 
 pub returns-then-grid-tracer : goal.returns-then-grid-tracer
 returns-then-grid-tracer c = on_shape c.args.tracer (load c.args.numbers.now) c.args.field.now c.in_ok-grid.ensures.1 (load-7 _ _ _ _ (is-admitted _ c.in_ok-grid.grid.admitted) (room (goal.at.returns-then-grid-tracer c).Else-field-field_length) (enough (goal.at.returns-then-grid-tracer c).Else-numbers-n) c.if-grid-tracer.true)
 
-pub loaded_total-requires : goal.loaded_total-requires
-loaded_total-requires c = record { n_le_most_elements = small (goal.at.loaded_total-requires c).After-elements-n; n_in_bounds = omega arith }
-
 pub returns-then-loaded_total-gt-LIMIT : goal.returns-then-loaded_total-gt-LIMIT
 returns-then-loaded_total-gt-LIMIT c = on_shape c.args.tracer (load c.args.numbers.now) c.args.field.now c.in_ok-grid.ensures.1 (load-9 _ _ _ _ (is-admitted _ c.in_ok-grid.grid.admitted) (room (goal.at.returns-then-loaded_total-gt-LIMIT c).Else-field-field_length) (enough (goal.at.returns-then-loaded_total-gt-LIMIT c).Else-numbers-n) c.if-grid-tracer.false (omega (arith, summed (goal.at.returns-then-loaded_total-gt-LIMIT c).After-loaded_total)))
-
-pub tracer_start-start-requires : goal.tracer_start-start-requires
-tracer_start-start-requires c = c.if-grid-tracer.false
 
 -- the part ends within the field
 end : (c : After-elements_length) → c.tracer_start-start.result + c.elements_length.result ≤ field_length quadratic c.in_ok-grid.grid.shape
@@ -76,13 +62,13 @@ offset_bounds-field-start c = let g = c.in_ok-grid.grid.shape in omega (arith, e
 pub slice_bounds-lay-end : goal.slice_bounds-lay-end
 slice_bounds-lay-end c = omega (arith, end (goal.at.slice_bounds-lay-end c).After-elements_length, room (goal.at.slice_bounds-lay-end c).Else-field-field_length)
 
-pub lay-requires : goal.lay-requires
-lay-requires c =
-    let a = c.args in
-    let at = c.tracer_start-start.result in
+pub lay-requires-clause-part_len : goal.lay-requires-clause-part_len
+lay-requires-clause-part_len c =
+    let at = goal.at.lay-requires-clause-part_len c in
+    let start = c.tracer_start-start.result in
     let n = c.elements_length.result in
-    let size : n ≡ c.elements-n.result * 10 = omega (arith, c.elements_length.ensures, elements-are c.in_ok-grid.grid.shape, c.elements-n.ensures) in
-    record { part_len = part-size n at (at + n - at) a.field.now (add-sub_cancel_left at n) (omega (arith, end (goal.at.lay-requires c).After-elements_length, room (goal.at.lay-requires c).Else-field-field_length)) ∙ size; n_le_most_elements = small (goal.at.lay-requires c).After-elements-n; n_in_bounds = omega (arith, c.if-numbers-n.false) }
+    part-size n start (start + n - start) c.args.field.now (add-sub_cancel_left start n) (omega (arith, end at.After-elements_length, room at.Else-field-field_length))
+    ∙ omega (arith, c.elements_length.ensures, elements-are c.in_ok-grid.grid.shape, c.elements-n.ensures)
 
 pub returns : goal.returns
 returns c =

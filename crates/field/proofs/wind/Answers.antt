@@ -1,17 +1,16 @@
 -- Wind: each test is a check of the definition, in its order, and one store is the winds after it.
 use mathlib.Core.Path.{◌≡◌, sym, ap, ◌∙◌}
 use mathlib.Core.Bool.{true}
-use Prim.Native.Nat.{◌≤◌, ◌<◌}
+use Prim.Native.Nat.{◌≤◌}
 use borrow.Author.Rules.{rules}
 use native.Mathlib.Omega.{arith}
 use lib.ListN.{length}
 use mir.Syntax.{w16}
 use mir.Val.{to_z, of_z}
 use Rattle.rules.specs.Field.{faces, on_grid, wind_in_range}
-use Rattle.rules.proofs.GridLaws.{face-lt}
 use Rattle.field_layout.proofs.GridLaws.{refused-2}
 use Rattle.field_layout.proofs.PlaceLaws.{is-admitted}
-use Rattle.field.proofs.WindFreshLoad.{wind-on-shape, inside_of, wind-2, wind-4, wind-5, wind-8, wind-done}
+use Rattle.field.proofs.WindFreshLoad.{wind-on-shape, wind-2, wind-4, wind-5, wind-8, wind-done}
 use Rattle.field.proofs.wind.Goals as goal
 use Rattle.field.proofs.wind.Goals.{After-face_at, After-struct_told-1, Else-not-on_grid, Else-not-wind_in_range, Else-winds-faces}
 
@@ -43,22 +42,6 @@ returns-then-not-wind_in_range c = wind-on-shape c.args.face c.args.winds.now c.
 
 pub returns-then-not-on_grid : goal.returns-then-not-on_grid
 returns-then-not-on_grid c = wind-on-shape c.args.face c.args.winds.now c.in_ok-grid.ensures.1 (wind-8 _ _ _ (is-admitted _ c.in_ok-grid.grid.admitted) (room (goal.at.returns-then-not-on_grid c).Else-winds-faces) (range (goal.at.returns-then-not-on_grid c).Else-not-wind_in_range) (sym c.on_grid.ensures ∙ c.if-not-on_grid.true))
-
-pub face_at-requires : goal.face_at-requires
-face_at-requires c = inside_of _ _ _ (is-admitted _ c.in_ok-grid.grid.admitted) (grid (goal.at.face_at-requires c).Else-not-on_grid)
-
--- the face stands within the wind
-inside : (c : After-face_at) → c.face_at.result < length c.args.winds.now
-inside c =
-    let a = c.args in
-    let h = inside_of c.in_ok-grid.grid.shape a.face.i a.face.j ((is-admitted _ c.in_ok-grid.grid.admitted)) ((let h : on_grid c.in_ok-grid.grid.shape c.args.face.i c.args.face.j ≡ true = sym c.on_grid.ensures ∙ c.if-not-on_grid.false in h)) in
-    omega (arith, c.face_at.ensures, (let h : faces c.in_ok-grid.grid.shape ≤ length c.args.winds.now = omega (arith, c.faces.ensures) in h), face-lt c.in_ok-grid.grid.shape a.face.way a.face.i a.face.j h.column h.row)
-
-pub offset_bounds-winds-face_at : goal.offset_bounds-winds-face_at
-offset_bounds-winds-face_at c = omega (arith, inside (goal.at.offset_bounds-winds-face_at c).After-face_at)
-
-pub bounds-winds-face_at : goal.bounds-winds-face_at
-bounds-winds-face_at c = inside (goal.at.bounds-winds-face_at c).After-face_at
 
 pub returns : goal.returns
 returns c = let a = c.args in wind-on-shape a.face a.winds.now c.in_ok-grid.ensures.1 (rw (c.face_at.ensures, whole (goal.at.returns c).After-struct_told-1) (wind-done c.in_ok-grid.grid.shape a.face a.winds.now (is-admitted _ c.in_ok-grid.grid.admitted) (room (goal.at.returns c).Else-winds-faces) (range (goal.at.returns c).Else-not-wind_in_range) (grid (goal.at.returns c).Else-not-on_grid)))

@@ -12,8 +12,7 @@ use Rattle.rules.specs.Field.{quadratic, element, mass, part}
 use Rattle.rules.specs.Calls.{withdrawal, done, mass_reading, withdrawn}
 use Rattle.rules.proofs.CallLaws.{length-withdrawn}
 use Rattle.field_layout.specs.Places.{element_start}
-use Rattle.whole.proofs.OverwriteLaws.{part-size}
-use Rattle.field.proofs.CheckLaws.{Held, held, call-refused, call-accepted, on_shape, call-bad-shape, withdrawal-refused, withdrawal-over, withdrawal-accepted}
+use Rattle.field.proofs.CheckLaws.{grid-refused, Held, held, call-refused, call-accepted, on_shape, call-bad-shape, withdrawal-refused, withdrawal-over, withdrawal-accepted}
 use Rattle.field.proofs.InPlaceLaws.{mass-lent, withdrawn-lent, back-in-place}
 use Rattle.field.proofs.withdrawal.Goals as goal
 use Rattle.field.proofs.withdrawal.Goals.{After-element_start-start, In_ok-held}
@@ -27,8 +26,7 @@ known c = let a = c.args in
     let g = c.in_ok-grid.grid.shape in held g a.tracer a.i a.j a.field.now _ (read c)
 
 pub returns-then-held-q : goal.returns-then-held-q
-returns-then-held-q c = let a = c.args in
-    let g = c.in_ok-grid.grid.shape in on_shape a.tracer (withdrawal a.i a.j a.q) a.field.now c.in_ok-grid.ensures.1 (call-refused g a.tracer (withdrawal a.i a.j a.q) a.field.now 10 (withdrawal-over g a.tracer a.i a.j a.field.now a.q _ (read (goal.at.returns-then-held-q c).In_ok-held) c.if-held-q.true))
+returns-then-held-q c = grid-refused _ _ c.in_ok-grid.ensures.1 (withdrawal-over _ _ _ _ _ _ _ (read (goal.at.returns-then-held-q c).In_ok-held) c.if-held-q.true)
 
 pub element_start-start-requires : goal.element_start-start-requires
 element_start-start-requires c = (known (goal.at.element_start-start-requires c).In_ok-held).within
@@ -43,23 +41,27 @@ offset_bounds-field-start c = omega (arith, ends (goal.at.offset_bounds-field-st
 pub slice_bounds-withdraw-end : goal.slice_bounds-withdraw-end
 slice_bounds-withdraw-end c = ends (goal.at.slice_bounds-withdraw-end c).After-element_start-start
 
-pub withdraw-requires : goal.withdraw-requires
-withdraw-requires c =
+-- what is lent holds the element's mass
+lent-mass : (c : After-element_start-start) → let r = c.element_start-start.result in mass quadratic (take (r + 10 - r) (drop r c.args.field.now)) 0 ≡ c.in_ok-held.held
+lent-mass c =
     let a = c.args in
     let g = c.in_ok-grid.grid.shape in
-    let k = known (goal.at.withdraw-requires c).In_ok-held in
-    let r = c.element_start-start.result in
+    let k = known c.before.before in
     let st = element_start g a.tracer a.i a.j in
-    let m : mass quadratic (take (r + 10 - r) (drop r a.field.now)) 0 ≡ mass quadratic (part quadratic g a.tracer a.field.now) (element g a.i a.j) =
-    rw c.element_start-start.ensures.start (mass-lent g a.tracer a.i a.j a.field.now k.within k.room (st + 10 - st) (add-sub_cancel_left st 10)) in
-    record { part_len = part-size 10 r (r + 10 - r) a.field.now (add-sub_cancel_left r 10) (ends (goal.at.withdraw-requires c).After-element_start-start); part_bound = omega (arith, m, k.is, k.small); q_bound = omega (arith, m, k.is, c.if-held-q.false) }
+    rw c.element_start-start.ensures.start (mass-lent g a.tracer a.i a.j a.field.now k.within k.room (st + 10 - st) (add-sub_cancel_left st 10)) ∙ sym k.is
+
+pub withdraw-requires-clause-part_bound : goal.withdraw-requires-clause-part_bound
+withdraw-requires-clause-part_bound c =
+    let at = goal.at.withdraw-requires-clause-part_bound c in
+    omega (arith, lent-mass at.After-element_start-start, (known at.In_ok-held).small)
+
+pub withdraw-requires-clause-q_bound : goal.withdraw-requires-clause-q_bound
+withdraw-requires-clause-q_bound c = omega (arith, lent-mass (goal.at.withdraw-requires-clause-q_bound c).After-element_start-start, c.if-held-q.false)
 
 pub returns-in_err-held : goal.returns-in_err-held
 returns-in_err-held c =
-    let a = c.args in
-    let g = c.in_ok-grid.grid.shape in
     let r = c.from_residual-in_err-held in
-    let e = on_shape a.tracer (withdrawal a.i a.j a.q) a.field.now c.in_ok-grid.ensures.1 (call-refused g a.tracer (withdrawal a.i a.j a.q) a.field.now _ (withdrawal-refused g a.tracer a.i a.j a.field.now a.q _ (sym c.in_err-held.ensures))) in
+    let e = grid-refused _ _ c.in_ok-grid.ensures.1 (withdrawal-refused _ _ _ _ _ _ _ (sym c.in_err-held.ensures)) in
     (passed_on r.result _ r.ensures.1 ∙ e.0, e.1)
 
 pub returns-in_err-grid : goal.returns-in_err-grid

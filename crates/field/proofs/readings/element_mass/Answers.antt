@@ -1,16 +1,11 @@
 -- The mass of an element, lent as a part of the field, is the element's in its tracer's part.
 use mathlib.Core.Path.{◌∙◌}
 use Prim.Native.Nat.{◌+◌, ◌-◌}
-use native.Mathlib.Omega.{arith}
 use native.Mathlib.Nat.{add-sub_cancel_left}
 use Rattle.field_layout.specs.Places.{element_start}
-use Rattle.whole.proofs.OverwriteLaws.{part-size}
 use Rattle.field.proofs.InPlaceLaws.{mass-lent}
 use Rattle.field.proofs.readings.element_mass.Goals as goal
 use Rattle.field.proofs.readings.element_mass.Goals.{After-element_start-at}
-
-pub mass-requires : goal.mass-requires
-mass-requires c = let r = c.element_start-at.result in part-size 10 r (r + 10 - r) c.args.field.now (add-sub_cancel_left r 10) (omega (arith, c.element_start-at.ensures.room, c.requires.shape_in_bounds))
 
 pub returns : goal.returns
 returns c =

@@ -8,7 +8,6 @@ use lib.ListN.{length, take, drop}
 use Rattle.rules.specs.Field.{quadratic, admitted, field_length, part}
 use Rattle.field_search.specs.Search.{searched}
 use Rattle.field_layout.proofs.PlaceLaws.{is-admitted, field_is, field-le, tracer-room}
-use Rattle.rules.proofs.PartLaws.{length-part}
 use Rattle.field.proofs.CheckLaws.{total-short, total-no-tracer, total-searched}
 use Rattle.field.proofs.readings.total_on.Goals as goal
 use Rattle.field.proofs.readings.total_on.Goals.{After-part_length, Else-field-field_length, Start}
@@ -47,9 +46,6 @@ offset_bounds-field-start c = omega (arith, ends (goal.at.offset_bounds-field-st
 
 pub slice_bounds-tracer_total-end : goal.slice_bounds-tracer_total-end
 slice_bounds-tracer_total-end c = omega (arith, ends (goal.at.slice_bounds-tracer_total-end c).After-part_length)
-
-pub tracer_total-requires : goal.tracer_total-requires
-tracer_total-requires c = let a = c.args in ap length (lent_is (goal.at.tracer_total-requires c).After-part_length) ∙ length-part quadratic a.grid.shape a.tracer a.field.now c.if-grid-tracer.false (room (goal.at.tracer_total-requires c).Else-field-field_length)
 
 pub returns : goal.returns
 returns c =
