@@ -97,5 +97,5 @@ returns c =
     let ten-is = add-sub_cancel_left st 10 in
     let x : c.emit.new.part ≡ emitted quadratic (element g a.i a.j) a.q (part quadratic g a.tracer a.field.now) =
     c.emit.ensures ∙ (rw c.element_start-start.ensures.start (emitted-lent g a.tracer a.i a.j a.field.now w h.room k ten-is a.q)) in
-    on_shape a.tracer (emission a.i a.j a.q) a.field.now c.in_ok-grid.ensures.1
+    on_shape _ _ _ c.in_ok-grid.ensures.1
     (e.0, (rw c.element_start-start.ensures.start (back-in-place g a.tracer a.i a.j a.field.now w h.room k ten-is _ _ x (length-emitted quadratic (element g a.i a.j) a.q (part quadratic g a.tracer a.field.now)))) ∙ e.1)

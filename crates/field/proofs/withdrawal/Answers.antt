@@ -82,5 +82,5 @@ returns c =
     let e = call-accepted g a.tracer (withdrawal a.i a.j a.q) a.field.now _ (withdrawal-accepted g a.tracer a.i a.j a.field.now a.q _ (read (goal.at.returns c).In_ok-held) c.if-held-q.false) in
     let x : c.withdraw.new.part ≡ withdrawn quadratic (element g a.i a.j) a.q (part quadratic g a.tracer a.field.now) =
     c.withdraw.ensures ∙ (rw c.element_start-start.ensures.start (withdrawn-lent g a.tracer a.i a.j a.field.now k.within k.room n ten-is a.q)) in
-    on_shape a.tracer (withdrawal a.i a.j a.q) a.field.now c.in_ok-grid.ensures.1
+    on_shape _ _ _ c.in_ok-grid.ensures.1
     (e.0, (rw c.element_start-start.ensures.start (back-in-place g a.tracer a.i a.j a.field.now k.within k.room n ten-is _ _ x (length-withdrawn quadratic (element g a.i a.j) a.q (part quadratic g a.tracer a.field.now)))) ∙ e.1)

@@ -2,7 +2,7 @@ use mathlib.Core.Path.{sym, ap, ◌∙◌}
 use native.Mathlib.Omega.{arith}
 use Prim.Native.Nat.{◌+◌, ◌*◌}
 use Rattle.rules.specs.Field.{element}
-use Rattle.field_layout.proofs.PlaceLaws.{index-small, element-room, element-ends, start_is, field-le, field_is}
+use Rattle.field_layout.proofs.PlaceLaws.{element-room, element-ends, start_is, field-le, field_is}
 use Rattle.field_layout.proofs.grid.Grid.element_start.Goals as goal
 
 pub overflow_add-result-2 : goal.overflow_add-result-2
@@ -18,15 +18,3 @@ returns c =
     let e = ap (λ n. n + element g a.i a.j * 10) c.tracer_start.ensures ∙ sym (start_is g a.tracer a.i a.j) in
     let ends = element-ends g a.tracer a.i a.j a.self.admitted c.requires _ (omega arith) _ e in
     record { start = e; room = ends.0; small = ends.1 }
-
-pub tracer_start-requires : goal.tracer_start-requires
-tracer_start-requires c = c.requires.tracer
-
-pub overflow_mul-result : goal.overflow_mul-result
-overflow_mul-result c = record { fits = omega (arith, index-small _ c.args.self.admitted c.requires) }
-
-pub overflow_add-result : goal.overflow_add-result
-overflow_add-result c = record { fits = omega (arith, index-small _ c.args.self.admitted c.requires) }
-
-pub overflow_mul-result-2 : goal.overflow_mul-result-2
-overflow_mul-result-2 c = record { fits = omega (arith, index-small _ c.args.self.admitted c.requires) }
