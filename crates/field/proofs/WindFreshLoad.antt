@@ -22,10 +22,6 @@ use Rattle.rules.proofs.ShapeLaws.{admitted-is}
 use Rattle.field_layout.specs.Places.{Inside}
 
 module _ (g : Shape) where
-  pub inside_of : (i j : ℕ) → admitted g ≡ true → on_grid g i j ≡ true → Inside g 0 i j
-  inside_of i j a o =
-      let t = both_yes (ltb i g.nx) (ltb j g.ny) (subst T (sym o) tt) in
-      record { tracer = (admitted-is g a).tracers-above; column = ltb→lt _ _ t.0; row = ltb→lt _ _ t.1 }
 
 -- ---- wind
 module _ (g : Shape) (f : Face) (w : List ℤ) where

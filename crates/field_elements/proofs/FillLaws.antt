@@ -8,7 +8,7 @@ use native.Mathlib.Omega.{arith}
 use lib.ListN.{length, set, take, drop, length-set, drop_of_length-le}
 use Rattle.whole.specs.Table.{table, blocks, overwrite}
 use Rattle.whole.proofs.TableLaws.{length-blocks, fill-next, fill-block, length-filled}
-use Rattle.whole.proofs.OverwriteLaws.{front-is, filled-front, part_room}
+use Rattle.whole.proofs.OverwriteLaws.{front-is, part_room}
 
 -- the first k of n entries are f's, the others those of l
 pub record Filled {A : Type 0} (f : ℕ → A) (l : List A) (n k : ℕ) (p : List A) : Type 0 where
@@ -24,13 +24,6 @@ module _ {A : Type 0} {f : ℕ → A} {l : List A} {n : ℕ} where
 
   pub filled_next : {k : ℕ} {p : List A} {x : A} → Filled f l n k p → k < n → x ≡ f k → Filled f l n (k + 1) (set p k x)
   filled_next {k} {p} {x} h q e = record { room = h.room; within = omega arith; long = rw length-set h.long; same = fill-next k f l p x h.same (omega arith) e }
-
-  module _ {k : ℕ} {p : List A} (h : Filled f l n k p) (end : n ≤ k) where
-    all-filled : p ≡ table n f ++ drop n l
-    all-filled = let e : k ≡ n = omega arith in rw e at h.same
-
-    pub filled-all : p ≡ overwrite 0 (table n f) l
-    filled-all = all-filled ∙ filled-front n f l
 
 -- the first k of n blocks of width w are f's, the rest is that of l
 pub record BlocksFilled {A : Type 0} (w : ℕ) (f : ℕ → List A) (l : List A) (n k : ℕ) (p : List A) : Type 0 where

@@ -1,16 +1,13 @@
 -- Lengths, starts and rooms of an admitted shape, with numerals: each is a product of factors that the shape bounds.
-use mathlib.Core.Path.{◌≡◌, refl, sym, ap, ◌∙◌}
-use mathlib.Core.Bool.{true, false}
-use Prim.Native.Nat.{ℕ, suc, ◌+◌, ◌*◌, ◌≤◌, ◌<◌}
+use mathlib.Core.Path.{◌≡◌, refl, ap, ◌∙◌}
+use mathlib.Core.Bool.{true}
+use Prim.Native.Nat.{ℕ, ◌+◌, ◌*◌, ◌≤◌, ◌<◌}
 use native.Mathlib.Nat.{mul-le-mul}
 use native.Mathlib.Omega.{arith}
-use borrow.Author.Tests.{lt-leb, le-leb, ltb-true, ltb-false}
-use lib.IntN.{ℤ, pos, negsuc}
-use lib.Signed.{lt_z, le_z}
+use borrow.Author.Tests.{le-leb}
 use Rattle.whole.proofs.OverwriteLaws.{part_room}
 use Rattle.rules.specs.declared.Shape.{Shape}
-use Rattle.rules.specs.Field.{quadratic, admitted, elements, element, element_length, part_length, field_length, Admitted, elements_length, wind_in_range}
-use Rattle.rules.specs.Sizes.{most_elements}
+use Rattle.rules.specs.Field.{quadratic, admitted, elements, element, element_length, part_length, field_length, Admitted, elements_length}
 use Rattle.rules.proofs.GridLaws.{element-lt}
 use Rattle.rules.proofs.ShapeLaws.{elements-le}
 use Rattle.rules.proofs.PartLaws.{part-is-elements}
@@ -54,27 +51,14 @@ module _ (g : Shape) where
   pub start-le : (s : ℕ) → Admitted g → s < g.tracers → s * part_length quadratic g ≤ most_field
   start-le s z h = omega (arith, tracer-room s h, field_is, field-le z)
 
-  -- an element is one of the grid's
-  pub index-small : {s i j : ℕ} → Admitted g → Inside g s i j → (element g i j < elements g) × (elements g ≤ most_elements)
-  index-small {s} {i} {j} z h = (element-lt g i j h.column h.row, elements-le g z)
-
-  -- and an element's numbers within its tracer's part
+  -- an element's numbers end within the field
   pub element-room : (s i j : ℕ) → Inside g s i j → element_start g s i j + 10 ≤ field_length quadratic g
   unfolding element_start
   element-room s i j h = omega (arith, tracer-room s h.tracer, part-is, ap (λ n. element g i j * n) ten, element-lt g i j h.column h.row)
 
-  pub element-ends : (s i j : ℕ) → Admitted g → Inside g s i j → (n : ℕ) → field_length quadratic g ≤ n → (at : ℕ) → at ≡ element_start g s i j → (at + 10 ≤ n) × (at + 10 ≤ most_field)
-  element-ends s i j z h n room at e = (omega (arith, element-room s i j h, room, e), omega (arith, element-room s i j h, field_is, field-le z, e))
+  pub element-small : (s i j : ℕ) → Admitted g → Inside g s i j → element_start g s i j + 10 ≤ most_field
+  element-small s i j z h = omega (arith, element-room s i j h, field_is, field-le z)
 
   pub start_is : (s i j : ℕ) → element_start g s i j ≡ s * part_length quadratic g + element g i j * 10
   unfolding element_start
   start_is s i j = ap (λ n. s * part_length quadratic g + element g i j * n) ten
-
--- ---- a wind number's range by two tests
-pub wind-low : (z : ℤ) → lt_z z (negsuc 1023) ≡ true → wind_in_range z ≡ false
-wind-low (pos a) h = let x : ◌≡◌ {A = ℕ} 0 1 = cc in absurd (omega arith)
-wind-low (negsuc a) h = lt-leb (suc a) 1024 (omega (arith, ltb-true 1023 a h))
-
-pub wind-high : (z : ℤ) → lt_z z (negsuc 1023) ≡ false → le_z z (pos 1024) ≡ wind_in_range z
-wind-high (pos a) h = refl
-wind-high (negsuc a) h = sym (le-leb (suc a) 1024 (omega (arith, ltb-false 1023 a h)))

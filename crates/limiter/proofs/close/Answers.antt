@@ -1,7 +1,6 @@
 use mathlib.Core.Path.{sym, ap, subst, ◌∙◌}
 use mir.Syntax.{w64}
 use Rattle.whole.specs.Bound.{Within}
-use Rattle.whole.proofs.BoundLaws.{within-back}
 use Rattle.whole.proofs.Sizes.{back_is}
 use Rattle.rules.specs.Field.{quadratic}
 use Rattle.rules.specs.Limiter.{closed, adjusted, closed_unlevelled}
@@ -13,10 +12,6 @@ use Rattle.limiter.proofs.close.Goals.{After-mean_shift-shift}
 -- what levelling adds is small
 shift_small : (c : After-mean_shift-shift) → Within shift_size c.mean_shift-shift.result
 shift_small c = subst (Within shift_size) (sym c.mean_shift-shift.ensures.same) c.mean_shift-shift.ensures.bound
-
-pub close_shifted-requires : goal.close_shifted-requires
-close_shifted-requires c =
-    record { part_len = c.requires.part_len; tentative = c.requires.tentative; shift = record { small = within-back w64 _ (shift_small (goal.at.close_shifted-requires c).After-mean_shift-shift) }; target_le_target_size = c.requires.target_le_target_size }
 
 pub returns : goal.returns
 unfolding closed adjusted

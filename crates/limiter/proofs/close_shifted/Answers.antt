@@ -1,9 +1,8 @@
-use mathlib.Core.Path.{◌≡◌, refl, sym, ap, ◌∙◌}
+use mathlib.Core.Path.{◌≡◌, refl, ap, ◌∙◌}
 use mathlib.Core.List.{List}
 use lib.IntN.{ℤ}
 use Prim.Native.Nat.{ℕ, ◌≤◌, ◌<◌, ◌+◌, ◌*◌}
 use native.Mathlib.Omega.{arith}
-use native.Mathlib.Nat.{mul-le-mul}
 use lib.ListN.{length-set}
 use mir.Syntax.{w64}
 use mir.Val.{to_z, of_z}
@@ -19,10 +18,6 @@ use Rattle.limiter.proofs.Laws.{nodes-long, nodes-at, nodes-small, cut_value, cu
 use Rattle.limiter.proofs.close_shifted.Goals as goal
 use Rattle.limiter.proofs.close_shifted.Goals.{After-loop-k, After-node_weight, After-rescale-y, Start}
 
--- the shift as the machine reads it back, and the values that the loop makes with it
-shift_small : (c : Start) → Shift (to_z w64 (of_z w64 c.args.shift))
-shift_small c = record { small = within-back w64 c.args.shift c.requires.shift.small }
-
 module _ (p : List ℤ) (s : ℤ) (t : ℕ) where
   abbrev made : ℕ → ℕ
   made = new_value p (to_z w64 (of_z w64 s)) t
@@ -30,21 +25,12 @@ module _ (p : List ℤ) (s : ℤ) (t : ℕ) where
   abbrev made-le : (n : ℕ) → n ≤ 9 → weighted_to made n ≤ t
   made-le = new_sum-le p (to_z w64 (of_z w64 s)) t
 
-pub truncated_sum-p-requires : goal.truncated_sum-p-requires
-truncated_sum-p-requires c = record { tentative = c.requires.tentative; shift = shift_small (goal.at.truncated_sum-p-requires c).Start }
-
 pub loop-k-init : goal.loop-k-init
 unfolding sum table
 loop-k-init c = (refl, c.requires.part_len, refl, omega arith)
 
 pub truncate-requires-clause-value : goal.truncate-requires-clause-value
 truncate-requires-clause-value c = within-back w64 _ (nodes-small c.args.psi.now c.requires.tentative c.loop-k.k c.loop-k-test.true)
-
-pub truncate-requires-clause-shift : goal.truncate-requires-clause-shift
-truncate-requires-clause-shift c = shift_small (goal.at.truncate-requires-clause-shift c).Start
-
-pub rescale-y-requires : goal.rescale-y-requires
-rescale-y-requires c = omega (arith, mul-le-mul c.truncate.ensures.upper_bound c.requires.target_le_target_size)
 
 -- what a turn stores
 stored : (c : After-rescale-y) → c.rescale-y.result ≡ made c.args.psi.now c.args.shift c.args.target c.loop-k.k
@@ -91,15 +77,6 @@ ended c =
     let e : c.loop-k.k ≡ 9 = omega (arith, nodes-long a.psi.now c.requires.tentative) in
     let m = (rw e at c.loop-k.invariant.2) ∙ weighted_to-all v in
     (e, m, omega (arith, c.loop-k.invariant.2, made-le a.psi.now a.shift a.target c.loop-k.k (omega (arith, e))))
-
-pub overflow_cast-part-2 : goal.overflow_cast-part-2
-overflow_cast-part-2 c = record { fits = omega (arith, ended (goal.at.overflow_cast-part-2 c).After-loop-k, c.requires.target_le_target_size) }
-
-pub bounds-part-9 : goal.bounds-part-9
-bounds-part-9 c = omega (arith, c.loop-k.invariant.1)
-
-pub shape_of-part : goal.shape_of-part
-shape_of-part c = rw length-set (c.loop-k.invariant.1 ∙ sym c.requires.part_len)
 
 pub returns : goal.returns
 unfolding closed_unlevelled closing_remainder quadratic

@@ -1,15 +1,14 @@
 use mathlib.Core.Path.{◌≡◌, ap, ◌∙◌}
 use native.Mathlib.Omega.{arith}
 use lib.IntN.{pos, ◌-ℤ◌, ◌*ℤ◌}
-use lib.Signed.{le_z_yes}
 use mir.Syntax.{w64}
 use mir.Val.{to_z, of_z}
 use mir.Facts.{to_z_pos}
 use Rattle.whole.specs.Table.{at}
 use Rattle.whole.specs.Bound.{Within, Are, floor_div}
 use Rattle.whole.specs.Sum.{sum, sum_ℤ}
-use Rattle.whole.proofs.BoundLaws.{within-le, within-sub, within-floor, within-pos}
-use Rattle.whole.proofs.Sizes.{sizes, exacts, fits, within, exact, back_is}
+use Rattle.whole.proofs.BoundLaws.{within-le, within-sub, within-floor}
+use Rattle.whole.proofs.Sizes.{exacts, exact, back_is}
 use Rattle.rules.specs.Field.{quadratic, weight_sum}
 use Rattle.rules.specs.Limiter.{mean_shift}
 use Rattle.rules.specs.Sizes.{shift_size, target_size}
@@ -22,12 +21,6 @@ target_is c = record { same = to_z_pos w64 (omega (arith, c.requires.target_le_t
 
 difference : (c : After-weighted_sum-sum) → to_z w64 (of_z w64 (to_z w64 c.args.target -ℤ to_z w64 (of_z w64 c.weighted_sum-sum.result))) ≡ pos c.args.target -ℤ sum_ℤ 9 (λ k. pos (quadratic.weight k) *ℤ at c.args.psi.now k)
 difference c = let t = target_is c in let s = c.weighted_sum-sum.ensures in exact (search exacts depth 20) tt
-
-pub overflow_sub-target : goal.overflow_sub-target
-overflow_sub-target c = let t = target_is (goal.at.overflow_sub-target c).After-weighted_sum-sum in let s = c.weighted_sum-sum.ensures in fits (search sizes depth 20) tt
-
-pub floor_div-requires : goal.floor_div-requires
-floor_div-requires c = let t = target_is (goal.at.floor_div-requires c).After-weighted_sum-sum in let s = c.weighted_sum-sum.ensures in record { within = within (search sizes depth 20) tt; pos_bound = le_z_yes tt; within_2 = within-le (within-pos 36) (omega arith) }
 
 pub returns : goal.returns
 unfolding mean_shift weight_sum quadratic sum

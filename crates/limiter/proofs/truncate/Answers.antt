@@ -10,7 +10,6 @@ use Rattle.std.specs.Result.{OkIff, result_unwrap_or}
 use Rattle.whole.specs.Parts.{positive}
 use Rattle.whole.proofs.BoundLaws.{within-add}
 use Rattle.whole.proofs.Sizes.{exacts, exact}
-use Rattle.whole.proofs.WholeLaws.{positive-le}
 use Rattle.limiter.proofs.truncate.Goals as goal
 
 -- the u64 of a number, or 0 where there is none
@@ -21,10 +20,9 @@ as-positive (Ok x) (negsuc n) l h = absurd h.0
 as-positive (Err e) (pos n) l h = absurd (h l)
 as-positive (Err e) (negsuc n) l h = refl
 
-pub returns : goal.returns
-returns c =
+pub returns-clause-value : goal.returns-clause-value
+returns-clause-value c =
     let z = c.args.value +ℤ c.args.shift in
     let sum : to_z w64 (of_z w64 (to_z w64 (of_z w64 c.args.value) +ℤ to_z w64 (of_z w64 c.args.shift))) ≡ z = exact (search exacts depth 20) tt in
     let small = (within-add c.requires.value c.requires.shift.small).within in
-    let e = c.unwrap_or.ensures ∙ as-positive c.try_from.result z (omega (arith, small)) (subst (λ y. OkIff c.try_from.result (FitsUnsignedBits 64 y) (nat_abs y)) sum c.try_from.ensures) in
-    record { value = e; upper_bound = omega (arith, e, positive-le z, small) }
+    c.unwrap_or.ensures ∙ as-positive c.try_from.result z (omega (arith, small)) (subst (λ y. OkIff c.try_from.result (FitsUnsignedBits 64 y) (nat_abs y)) sum c.try_from.ensures)

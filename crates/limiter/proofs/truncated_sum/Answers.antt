@@ -16,15 +16,8 @@ pub loop-k-init : goal.loop-k-init
 unfolding sum
 loop-k-init c = (omega arith, refl)
 
--- the shift, as the machine reads it back
-shift_small : (c : Start) → Shift (to_z w64 (of_z w64 c.args.shift))
-shift_small c = record { small = within-back w64 c.args.shift c.requires.shift.small }
-
 pub truncate-requires-clause-value : goal.truncate-requires-clause-value
 truncate-requires-clause-value c = within-back w64 _ (nodes-small c.args.psi.now c.requires.tentative c.loop-k.k c.loop-k-test.true)
-
-pub truncate-requires-clause-shift : goal.truncate-requires-clause-shift
-truncate-requires-clause-shift c = shift_small (goal.at.truncate-requires-clause-shift c).Start
 
 -- one term more, and what the sum then is at most
 next : (c : After-truncate) → (c.loop-k.sum + c.node_weight.result * c.truncate.result ≡ weighted_to (cut_value c.args.psi.now (to_z w64 (of_z w64 c.args.shift))) (c.loop-k.k + 1))

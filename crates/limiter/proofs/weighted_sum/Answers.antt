@@ -31,6 +31,3 @@ loop-k-preserved c =
     let w = c.signed_weight.ensures in
     let s = c.loop-k.invariant.1 in
     (omega (arith, n.0), record { same = exact (search exacts depth 20) tt ∙ ap (λ v. sum_ℤ k (term l) +ℤ pos (quadratic.weight k) *ℤ v) n.1 ∙ sym (sum_ℤ-more k (term l)); bound = terms-within l _ c.requires (omega (arith, n.0)) })
-
-pub returns : goal.returns
-returns c = let e : c.loop-k.k ≡ 9 = omega (arith, nodes-long c.args.psi.now c.requires) in rw e at c.loop-k.invariant.1

@@ -38,8 +38,3 @@ loop-v-preserved c =
     let p = c.args.numbers.now in
     let a = added (goal.at.loop-v-preserved c).After-from in
     (omega (arith, a.0), rw (weighed-more quadratic p 0 l.v, zero-add l.v, ← l.invariant.1, c.number_weight.ensures, a.1), omega (arith, a.2))
-
-pub returns : goal.returns
-returns c =
-    let e : c.loop-v.v ≡ c.args.n = omega (arith, length-take-le c.args.n c.args.numbers.now c.requires.n_in_bounds) in
-    record { value = (rw e at c.loop-v.invariant.1); upper_bound = omega arith }

@@ -2,10 +2,9 @@ use mathlib.Core.Path.{◌≡◌, refl, ap, ◌∙◌}
 use Prim.Native.Nat.{◌*◌}
 use native.Mathlib.Omega.{arith}
 use native.Mathlib.Nat.{add-sub_cancel_left}
-use lib.Seq.{length-take-le}
 use Rattle.rules.specs.Field.{quadratic}
 use Rattle.rules.specs.Calls.{loaded_element}
-use Rattle.field_elements.proofs.FillLaws.{blocks-none, blocks-next, blocks-whole}
+use Rattle.field_elements.proofs.FillLaws.{blocks-none, blocks-next}
 use Rattle.field_elements.proofs.LoadLaws.{loaded-part, loaded-length, lent-chunk}
 use Rattle.field_elements.proofs.fill.lay.Goals as goal
 
@@ -19,6 +18,3 @@ loop-e-preserved c =
     let k = lent-chunk n _ c.args.n l.e c.as_chunks.ensures.front c.as_chunks.ensures.front_len c.requires.n_in_bounds c.loop-e-test.true in
     let x : c.lay_element.new.part ≡ loaded_element quadratic n l.e = c.lay_element.ensures ∙ ap (λ y. loaded_element quadratic y 0) k.1 ∙ loaded-part n l.e 9 refl in
     blocks-next (loaded-length n) l.invariant k.0 refl (add-sub_cancel_left (l.e * 10) 10) x
-
-pub returns : goal.returns
-returns c = blocks-whole c.loop-e.invariant (omega (arith, length-take-le c.args.n c.as_chunks.result.0.now (omega (arith, c.as_chunks.ensures.front_len)))) c.requires.part_len

@@ -1,6 +1,5 @@
 use mathlib.Core.Path.{◌≡◌, refl, sym, ap, ◌∙◌}
 use native.Mathlib.Omega.{arith}
-use lib.Seq.{length-take-le}
 use Rattle.whole.proofs.SumLaws.{sum_more}
 use Rattle.rules.specs.Field.{quadratic, weighted}
 use Rattle.rules.specs.Calls.{loaded_value}
@@ -20,8 +19,3 @@ loop-element-preserved c =
     let k = lent-chunk p _ c.args.n i c.as_chunks.ensures.front c.as_chunks.ensures.front_len c.requires.n_in_bounds c.loop-element-test.true in
     let w : c.weigh-sum.result ≡ weighted quadratic (loaded_value quadratic p i) = c.weigh-sum.ensures.value ∙ ap (λ x. weighed quadratic x 0 9) k.1 ∙ weighed-part p i 9 refl in
     (rw (w, l.invariant.0) (sym (sum_more i (λ e. weighted quadratic (loaded_value quadratic p e)))), omega (arith, c.weigh-sum.ensures.upper_bound, l.invariant.1))
-
-pub returns : goal.returns
-returns c =
-    let e : c.loop-element.element-index ≡ c.args.n = omega (arith, length-take-le c.args.n c.as_chunks.result.0.now (omega (arith, c.as_chunks.ensures.front_len))) in
-    rw e at c.loop-element.invariant.0

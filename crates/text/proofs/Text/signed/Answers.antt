@@ -3,13 +3,10 @@ use native.Mathlib.Omega.{arith}
 use lib.IntN.{nat_abs}
 use mir.Facts.{to_z-of_z}
 use Rattle.rules.specs.Text.{decimal_by}
-use Rattle.text.proofs.AddsLaws.{room, wider, then}
+use Rattle.text.proofs.AddsLaws.{wider, then}
 use Rattle.text.proofs.DecimalLaws.{signed_below, signed_above}
 use Rattle.text.proofs.Text.signed.Goals as goal
 use Rattle.text.proofs.Text.signed.Goals.{After-from, then-z-lt0, else-z-lt0}
-
-pub number-requires : goal.number-requires
-number-requires c = elim c.if-z-lt0.branch [ then-z-lt0 w ↦ rw w.self-is (room w.put.ensures 20 c.requires) | else-z-lt0 w ↦ rw w.self-is (omega (arith, c.requires)) ]
 
 -- the number without its sign
 size : (c : After-from) → decimal_by 19 c.from.result ≡ decimal_by 19 (nat_abs c.args.z)
