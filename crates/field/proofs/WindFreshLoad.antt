@@ -4,12 +4,10 @@ use mathlib.Core.Bool.{true, false}
 use mathlib.Core.List.{List, ◌++◌}
 use Prim.Native.Nat.{ℕ, ◌*◌, ◌≤◌, ◌<◌}
 use borrow.Author.Tests.{lt-leb, le-leb, lt-ltb, le-ltb}
-use lib.Dec.{T, ltb, ltb→lt}
 use lib.IntN.{ℤ, pos}
 use lib.ListN.{length, set, replicate, take, drop}
 use Rattle.whole.specs.Sum.{sum}
 use Rattle.whole.specs.Table.{blocks, overwrite}
-use Rattle.whole.proofs.Cases.{both_yes}
 use Rattle.whole.proofs.SumLaws.{sum-cong}
 use Rattle.rules.specs.declared.Shape.{Shape}
 use Rattle.rules.specs.declared.Face.{Face}
@@ -18,10 +16,6 @@ use Rattle.rules.specs.Field.{quadratic, admitted, elements, faces, on_grid, par
 use Rattle.rules.specs.Grid.{face_index}
 use Rattle.rules.specs.Calls.{one_face, wind_reply, new_wind, wind_after, fresh_reply, fresh_field, fresh_wind, zero_field, zero_wind, load, loaded, loaded_element, loaded_value, lent_enough, checks, done, call}
 use Rattle.rules.proofs.PartLaws.{mass-loaded, length-loaded, part-is-elements}
-use Rattle.rules.proofs.ShapeLaws.{admitted-is}
-use Rattle.field_layout.specs.Places.{Inside}
-
-module _ (g : Shape) where
 
 -- ---- wind
 module _ (g : Shape) (f : Face) (w : List ℤ) where

@@ -7,7 +7,7 @@ use native.Mathlib.Omega.{arith}
 use lib.ListN.{length}
 use Rattle.whole.specs.Table.{blocks}
 use Rattle.rules.specs.Field.{quadratic, elements, field_length, total}
-use Rattle.rules.specs.Calls.{load, loaded}
+use Rattle.rules.specs.Calls.{loaded}
 use Rattle.rules.specs.Calls.{loaded_element}
 use Rattle.rules.proofs.PartLaws.{part-is-elements}
 use Rattle.field_layout.proofs.PlaceLaws.{is-admitted, field-le, field_is, tracer-room, elements-are}
