@@ -7,13 +7,11 @@ use Rattle.text.proofs.AddsLaws.{given_back}
 use Rattle.output.proofs.TextLaws.{lines_at, refusal_at}
 use Rattle.output.proofs.fill.Goals as goal
 
-pub returns-in-Ok : goal.returns-in-Ok
-returns-in-Ok c =
+pub returns-in-Ok-clause-out_after : goal.returns-in-Ok-clause-out_after
+returns-in-Ok-clause-out_after c =
     let n = c.new-text.ensures in
     let t = lines_at _ _ c.in-Ok.is c.lines.ensures in
-    record { upper_bound = omega (arith, t.added.ends, t.added.few, n.empty, c.len.ensures); out_after = front-added (given_back t n.bytes n.empty (search (rules, t.same_buffer, n.same_buffer)) c.len.ensures) }
+    front-added (given_back t n.bytes n.empty (search (rules, t.same_buffer, n.same_buffer)) c.len.ensures)
 
-pub returns-in-Err : goal.returns-in-Err
-returns-in-Err c =
-    let a = c.refusal.ensures in
-    record { upper_bound = omega (arith, end-le a, c.requires.out_len); out_after = front-added a ∙ refusal_at _ _ c.in-Err.is c.lines.ensures }
+pub returns-in-Err-clause-out_after : goal.returns-in-Err-clause-out_after
+returns-in-Err-clause-out_after c = front-added c.refusal.ensures ∙ refusal_at _ _ c.in-Err.is c.lines.ensures

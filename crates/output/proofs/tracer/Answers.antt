@@ -5,9 +5,6 @@ use Rattle.text.proofs.AddsLaws.{same_bytes}
 use Rattle.output.proofs.Laws.{passed, step-refused, total-refused, lines-accepted, lines_are}
 use Rattle.output.proofs.tracer.Goals as goal
 
-pub tracer_lines-requires : goal.tracer_lines-requires
-tracer_lines-requires c = record { shape_in_bounds = omega (arith, c.requires, c.step.auto.report); room = c.requires.room }
-
 pub returns-in_err-step : goal.returns-in_err-step
 returns-in_err-step c =
     passed _ _ _ _ _ c.from_residual.result _ c.from_residual.ensures.1 (step-refused c.args.grid.shape c.args.wind.now c.args.tracer c.args.field.now _ _ c.requires.report_len c.requires.work_len _ (sym c.in_err-step.ensures.0))

@@ -8,9 +8,6 @@ pub loop-s-init : goal.loop-s-init
 loop-s-init c =
     tracers-none c.args.grid.shape c.args.wind.now c.args.field.now c.grid_line.new.text (room c.grid_line.ensures 0 (omega (arith, c.requires.room)))
 
-pub tracer-requires-clause-room : goal.tracer-requires-clause-room
-tracer-requires-clause-room c = room-left c.args.grid.shape c.args.wind.now c.grid_line.ensures c.loop-s.invariant c.loop-s-test.true c.requires.room
-
 pub returns-in_err-tracer : goal.returns-in_err-tracer
 returns-in_err-tracer c =
     all-refused c.args.grid.shape c.args.wind.now c.args.field.now _ _ _ _ c.loop-s.invariant c.loop-s-test.true c.from_residual.result _ c.from_residual.ensures.1 c.in_err-tracer.ensures

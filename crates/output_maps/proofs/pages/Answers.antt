@@ -13,12 +13,3 @@ pub loop-s-preserved : goal.loop-s-preserved
 loop-s-preserved c =
     let p = c.loop-s.invariant.1 in
     (omega arith, block_more (page_length c.args.grid.shape) _ p (behind refl (omega (arith, p.ends, p.fits, c.loop-s.auto.out)) c.page-end.ensures))
-
-pub shape_of-out : goal.shape_of-out
-shape_of-out c = added-length c.loop-s.invariant.1
-
-pub returns : goal.returns
-returns c =
-    let l = c.loop-s in
-    let e : l.s ≡ c.args.grid.shape.tracers = omega arith in
-    rw e at l.invariant.1

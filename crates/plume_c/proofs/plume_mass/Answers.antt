@@ -7,6 +7,3 @@ use Rattle.plume_c.proofs.plume_mass.Goals as goal
 
 pub number_or-requires : goal.number_or-requires
 number_or-requires c = subst Small (sym c.mass.ensures) (mass-answers _ _ _ _ _)
-
-pub returns : goal.returns
-returns c = read_back w64 c.number_or.ensures tt ∙ ap number_or c.mass.ensures

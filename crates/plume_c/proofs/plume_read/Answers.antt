@@ -7,6 +7,3 @@ use Rattle.plume_c.proofs.plume_read.Goals as goal
 
 pub shape_or-requires : goal.shape_or-requires
 shape_or-requires c = subst AdmittedShape (sym c.read.ensures.0) (read-answers _ _ _)
-
-pub returns : goal.returns
-returns c = let d = c.read.ensures in (read_back w64 c.shape_or.ensures tt ∙ ap shape_or d.0, d.1)

@@ -7,6 +7,3 @@ use Rattle.plume_c.proofs.plume_write.Goals as goal
 
 pub number_or-requires : goal.number_or-requires
 number_or-requires c = subst Small (sym c.write.ensures.0) (write-answers _ _ _ _)
-
-pub returns : goal.returns
-returns c = let d = c.write.ensures in (read_back w64 c.number_or.ensures tt ∙ ap number_or d.0, d.1)
