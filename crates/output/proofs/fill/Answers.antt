@@ -1,8 +1,7 @@
 -- The whole text is the lines, or the refusal alone.
 use Rattle.std.proofs.Common.{rules}
 use mathlib.Core.Path.{◌∙◌}
-use native.Mathlib.Omega.{arith}
-use Rattle.text.proofs.AddedLaws.{front-added, end-le}
+use Rattle.text.proofs.AddedLaws.{front-added}
 use Rattle.text.proofs.AddsLaws.{given_back}
 use Rattle.output.proofs.TextLaws.{lines_at, refusal_at}
 use Rattle.output.proofs.fill.Goals as goal

@@ -1,7 +1,7 @@
 use mathlib.Core.Path.{◌≡◌}
 use native.Mathlib.Omega.{arith}
 use Rattle.text.proofs.AddsLaws.{room}
-use Rattle.output.proofs.Laws.{tracers-none, tracers-next, room-left, all-refused, all-added}
+use Rattle.output.proofs.Laws.{tracers-none, tracers-next, all-refused, all-added}
 use Rattle.output.proofs.tracers.Goals as goal
 
 pub loop-s-init : goal.loop-s-init

@@ -1,7 +1,7 @@
-use mathlib.Core.Path.{◌≡◌, refl}
+use mathlib.Core.Path.{refl}
 use native.Mathlib.Omega.{arith}
 use Rattle.rules.specs.Map.{page_length}
-use Rattle.text.proofs.AddedLaws.{added-length, behind, blocks-none, block_more}
+use Rattle.text.proofs.AddedLaws.{behind, blocks-none, block_more}
 use Rattle.output_maps.proofs.pages.Goals as goal
 
 pub loop-s-init : goal.loop-s-init

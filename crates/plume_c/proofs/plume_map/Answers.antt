@@ -1,7 +1,5 @@
-use mathlib.Core.Path.{sym, ap, subst, ◌∙◌}
-use mir.Syntax.{w64}
-use Rattle.whole.proofs.Sizes.{read_back}
-use Rattle.c_numbers.specs.Numbers.{number_or, Small}
+use mathlib.Core.Path.{sym, subst}
+use Rattle.c_numbers.specs.Numbers.{Small}
 use Rattle.plume_c.proofs.Laws.{map-answers}
 use Rattle.plume_c.proofs.plume_map.Goals as goal
 

@@ -1,7 +1,5 @@
-use mathlib.Core.Path.{sym, ap, subst, ◌∙◌}
-use mir.Syntax.{w64}
-use Rattle.whole.proofs.Sizes.{read_back}
-use Rattle.c_numbers.specs.Numbers.{shape_or, AdmittedShape}
+use mathlib.Core.Path.{sym, subst}
+use Rattle.c_numbers.specs.Numbers.{AdmittedShape}
 use Rattle.plume_c.proofs.Laws.{read-answers}
 use Rattle.plume_c.proofs.plume_read.Goals as goal
 
