@@ -1,11 +1,11 @@
 -- Loops that fill a list from the front, by entries or by blocks: what holds at every turn, as a record, and what it says in the end.
 use mathlib.Core.Path.{◌≡◌, refl, sym, ap, ◌∙◌}
-use mathlib.Core.List.{List, ◌++◌, append-nil}
+use mathlib.Core.List.{List, ◌++◌}
 use Prim.Native.Nat.{ℕ, ◌+◌, ◌*◌, ◌≤◌, ◌<◌}
 use native.Mathlib.Nat.{zero-mul, suc-mul}
 use native.Mathlib.Numerals.{add-one}
 use native.Mathlib.Omega.{arith}
-use lib.ListN.{length, set, take, drop, length-set, drop_of_length-le}
+use lib.ListN.{length, set, take, drop, length-set}
 use Rattle.whole.specs.Table.{table, blocks, overwrite}
 use Rattle.whole.proofs.TableLaws.{length-blocks, fill-next, fill-block, length-filled}
 use Rattle.whole.proofs.OverwriteLaws.{front-is, part_room}
@@ -56,6 +56,3 @@ module _ {A : Type 0} {w : ℕ} {f : ℕ → List A} {l : List A} {n : ℕ} wher
 
     pub blocks-all : ((e : ℕ) → length (f e) ≡ w) → p ≡ overwrite 0 (blocks n f) l
     blocks-all each = all_blocks ∙ ap (λ m. blocks n f ++ drop m l) (sym (length-blocks w f each n)) ∙ sym (front-is (blocks n f) l)
-
-    pub blocks-whole : length l ≡ n * w → p ≡ blocks n f
-    blocks-whole e = all_blocks ∙ ap (λ y. blocks n f ++ y) (drop_of_length-le l {i = n * w} (omega arith)) ∙ append-nil (blocks n f)

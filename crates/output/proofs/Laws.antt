@@ -10,7 +10,7 @@ use lib.IntN.{ℤ, pos}
 use lib.ListN.{length}
 use Rattle.whole.specs.Table.{overwrite, at}
 use Rattle.whole.proofs.TableLaws.{blocks-cong}
-use Rattle.whole.proofs.OverwriteLaws.{part_room, overwrite-inside}
+use Rattle.whole.proofs.OverwriteLaws.{overwrite-inside}
 use Rattle.rules.specs.declared.Shape.{Shape}
 use Rattle.rules.specs.declared.Refusal.{Refusal}
 use Rattle.rules.specs.declared.Way.{Way}
@@ -125,11 +125,6 @@ module _ (g : Shape) (wind : List ℤ) (first : List ℕ) where
   stays-refused n s m e h = le_ind (λ k. up_to g wind k first ≡ refused n) e (λ k _ q. ap (λ j. up_to g wind j first) (sym (add-one k)) ∙ more k ∙ ap (λ a. next a (λ p. next (stepped g wind k p.field) (λ q. accepted (record { text = p.text ++ q.text; field = q.field })))) q) m h
 
 -- ---- in the code's terms
--- room for the next tracer
-pub room-left : (g : Shape) (wind : List ℤ) {first now' : List ℕ} {old mid new : Text} {s n : ℕ} → Adds 68 (grid_line g) old mid → TracersAdded g wind s first now' mid new
-    → s < n → HasRoom (68 + n * tracer_room g) old → HasRoom (tracer_room g) new
-room-left g wind {s = s} {n = n} a p h space = room (then a p.added) (tracer_room g) (omega (arith, part_room (tracer_room g) {s = s} {n = n} h))
-
 -- where a refusal is passed on
 pub passed : (n : ℕ) (a : Answer Printed) (field' : List ℕ) (old new : Text) (r : Result (Unit {0}) Refusal) (q : Refusal) → IsErrAnd r (λ y. y ≡ q) → a ≡ refused (number q) → AddedOrRefused n a field' old new r
 passed n a field' old new r q h e =
