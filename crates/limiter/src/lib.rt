@@ -40,7 +40,7 @@ fn mean_shift(psi: &[i64], target: u64) -> i64
     whole::floor_div((target as i64) - sum, WEIGHT_SUM)
 }
 
-// A value after levelling and truncation.
+// A value after levelling and truncation: below 0 there is no u64 of it, and it becomes 0.
 fn truncate(value: i64, shift: i64) -> u64
     requires value { Within tentative_size value }
     requires shift { Shift shift }

@@ -18,6 +18,7 @@ use Rattle.limiter.proofs.Laws.{nodes-long, nodes-at, nodes-small, cut_value, cu
 use Rattle.limiter.proofs.close_shifted.Goals as goal
 use Rattle.limiter.proofs.close_shifted.Goals.{After-loop-k, After-node_weight, After-rescale-y, Start}
 
+-- the values that the loop makes with the shift as the machine reads it back
 module _ (p : List ℤ) (s : ℤ) (t : ℕ) where
   abbrev made : ℕ → ℕ
   made = new_value p (to_z w64 (of_z w64 s)) t

@@ -1,11 +1,11 @@
-use mathlib.Core.Path.{◌≡◌, refl, sym, ap, ◌∙◌}
+use mathlib.Core.Path.{refl, sym, ap, ◌∙◌}
 use native.Mathlib.Omega.{arith}
 use lib.IntN.{pos, ◌+ℤ◌, ◌*ℤ◌}
 use Rattle.rules.specs.Field.{quadratic}
 use Rattle.whole.specs.Sum.{sum_ℤ}
 use Rattle.whole.proofs.SumLaws.{sum_ℤ-more}
 use Rattle.whole.proofs.Sizes.{sizes, exacts, fits, exact}
-use Rattle.limiter.proofs.Laws.{nodes-long, nodes-at, nodes-small, term, terms-within}
+use Rattle.limiter.proofs.Laws.{nodes-at, nodes-small, term, terms-within}
 use Rattle.limiter.proofs.weighted_sum.Goals as goal
 
 pub loop-k-init : goal.loop-k-init
