@@ -12,7 +12,6 @@ ghost use Rattle.c_numbers.specs.Numbers.{face_of, code, number_or, Small, shape
 use rules::{Face, Refusal, Shape, Way};
 
 // 0 for an accepted call, else the refusal's number.
-#[tactic(auto, unfolding(crate::specs::Numbers::code))]
 pub fn code(answer: Result<(), Refusal>) -> u8
     ensures { result ≡ code (answered answer) }
 {

@@ -1,0 +1,12 @@
+use mathlib.Core.Path.{sym, ap, ◌∙◌}
+use Rattle.rules.specs.Answers.{answered}
+use Rattle.c_numbers.specs.Numbers.{code}
+use Rattle.c_numbers.proofs.code.Goals as goal
+
+pub returns-in-Ok : goal.returns-in-Ok
+unfolding code
+returns-in-Ok c = sym (ap (λ a. code (answered a)) c.in-Ok.is)
+
+pub returns-in-Err : goal.returns-in-Err
+unfolding code
+returns-in-Err c = c.into.ensures ∙ sym (ap (λ a. code (answered a)) c.in-Err.is)
