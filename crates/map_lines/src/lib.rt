@@ -1,6 +1,7 @@
 // The page of a map, as a text: its blocks, and the line of the sum. Each function is a leaf; those that add to a text ask for room and for a
 // tracer that can be printed. `page` and `page_length` are what the call uses. A place becomes a u64 by `as`: std has no `From` for it, and a
-// `try_from` would add an unwrap that can never fail. Blocks and columns are counted, since their numbers are handed on.
+// `try_from` would add an unwrap that can never fail. Blocks, rows and columns are counted, since their numbers are
+// handed on.
 #![tactic(auto)]
 
 ghost use Rattle.std.specs.Prelude.{◌≡◌, ◌+◌, ◌*◌, ◌≤◌, ◌<◌, length};

@@ -10,7 +10,7 @@ ghost use Rattle.rules.specs.WindRecords.{east_wind, north_wind, all_record_chec
 use field_layout::Grid;
 use rules::{Refusal, Shape};
 
-// Whether the records of n elements pass, with no byte left over.
+// Whether the records of n elements pass, with no byte left over. Counted, since only n says which record is the last.
 fn check(records: &[u8], n: usize) -> Result<(), Refusal>
     ensures { answers result (answer (all_record_checks records.now n) tt) }
 {
