@@ -1,3 +1,3 @@
--- What the searches have found, turn by turn.
+-- What the searches have found, turn by turn, and runs of tests.
 pub mod SearchLaws
-pub mod TestLaws
+pub mod RunLaws

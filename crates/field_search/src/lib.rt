@@ -17,12 +17,7 @@ pub fn winds_sound(wind: &[i16], grid: Grid) -> bool
     requires { faces grid.shape ≤ length wind.now }
     ensures { result ≡ wind_sound grid.shape wind.now }
 {
-    for c in &wind[..grid.faces()] {
-        if !wind_in_range(*c) {
-            return false;
-        }
-    }
-    true
+    wind[..grid.faces()].iter().all(|c| wind_in_range(*c))
 }
 
 // The largest remainder of an element, and the largest total of a tracer.
