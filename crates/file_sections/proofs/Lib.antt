@@ -1,3 +1,2 @@
 -- Laws that the proofs of the sections cite.
 pub mod SectionLaws
-pub mod ChunkLaws

@@ -1,5 +1,5 @@
 use Rattle.std.proofs.Common.{rules, arith}
-use Rattle.file_sections.proofs.ChunkLaws.{chunks-all}
+use Rattle.field_search.proofs.RunLaws.{chunks-all}
 use Rattle.file_sections.proofs.SectionLaws.{wind-at}
 use Rattle.file_sections.proofs.winds_sound.Goals as goal
 
