@@ -71,7 +71,7 @@ impl Stored for i16 {
     }
 }
 
-// The u64 at place `at`.
+// The u64 at place `at`. A place, as the format has it: a wind record's two numbers are those at its places 1 and 9.
 pub fn number64(bytes: &[u8], at: usize) -> u64
     requires { at + 8 ≤ length bytes.now }
     ensures { result ≡ number64 bytes.now at }
