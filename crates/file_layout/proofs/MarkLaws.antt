@@ -1,4 +1,4 @@
--- The mark at a place, by std's test of a front.
+-- The mark, by std's test of a front.
 use Rattle.std.proofs.Common.{◌≡◌, refl, sym, ap, ◌∙◌, ℕ, ◌+◌, ◌-◌, ◌≤◌, Bool, true, false, ◌&&◌, List, [], ◌∷◌, length, take, drop, get_or, eqb, arith, get_or-drop}
 use Rattle.std.specs.Cmp.Lexicographic.{pointwise}
 use Rattle.std.proofs.lemmas.List.{take_rest}
@@ -25,15 +25,11 @@ regroup true true true false = refl
 regroup true true true true = refl
 
 -- four bytes at the front
-front : (p : List ℕ) → 4 ≤ length p → pointwise eqb mark (take 4 p) ≡ all 4 (λ i. eqb (get_or p i 0) (get_or mark i 0))
+pub marked : (p : List ℕ) → 4 ≤ length p → pointwise eqb mark (take 4 p) ≡ all 4 (λ i. eqb (get_or p i 0) (get_or mark i 0))
 unfolding all
-front (a ∷ b ∷ c ∷ d ∷ p) h = rw (eqb-swap 80 a, eqb-swap 76 b, eqb-swap 85 c, eqb-swap 77 d) (regroup (eqb a 80) (eqb b 76) (eqb c 85) (eqb d 77))
-front [] h = absurd (omega arith)
-front (a ∷ []) h = absurd (omega arith)
-front (a ∷ b ∷ []) h = absurd (omega arith)
-front (a ∷ b ∷ c ∷ []) h = absurd (omega arith)
+marked (a ∷ b ∷ c ∷ d ∷ p) h = rw (eqb-swap 80 a, eqb-swap 76 b, eqb-swap 85 c, eqb-swap 77 d) (regroup (eqb a 80) (eqb b 76) (eqb c 85) (eqb d 77))
+marked [] h = absurd (omega arith)
+marked (a ∷ []) h = absurd (omega arith)
+marked (a ∷ b ∷ []) h = absurd (omega arith)
+marked (a ∷ b ∷ c ∷ []) h = absurd (omega arith)
 
-pub mark-at : (l : List ℕ) (at : ℕ) → at + 4 ≤ length l → pointwise eqb mark (take 4 (take (length l - at) (drop at l))) ≡ all 4 (λ i. eqb (byte_at l (at + i)) (get_or mark i 0))
-mark-at l at h =
-    ap (λ p. pointwise eqb mark (take 4 p)) (take_rest l at) ∙ front (drop at l) (simp length-drop (omega arith))
-    ∙ all-cong 4 _ _ (λ i _. ap (λ b. eqb b (get_or mark i 0)) (get_or-drop at l i 0))

@@ -37,10 +37,10 @@ pub fn file_length(grid: Grid) -> usize
 // The mark that a file ends with.
 pub const MARK: [u8; 4] = *b"PLUM";
 
-// Whether the four bytes at place `at` are the mark.
-pub fn is_mark(file: &[u8], at: usize) -> bool
-    requires { at + 4 ≤ length file.now }
-    ensures { result ≡ all 4 (λ i. eqb (byte_at file.now (at + i)) (get_or mark i 0)) }
+// Whether these bytes begin with the mark.
+pub fn is_mark(bytes: &[u8]) -> bool
+    requires { 4 ≤ length bytes.now }
+    ensures { result ≡ all 4 (λ i. eqb (byte_at bytes.now i) (get_or mark i 0)) }
 {
-    file[at..].starts_with(&MARK)
+    bytes.starts_with(&MARK)
 }
