@@ -1,14 +1,14 @@
 -- Where the sections of a file stand: the sizes of an admitted shape, and that a section ends where the next one starts.
 use mathlib.Core.Path.{◌≡◌, refl}
 use Prim.Native.Nat.{ℕ, zero, suc, ◌+◌, ◌-◌, ◌*◌, ◌≤◌, ◌<◌}
-use native.Mathlib.Nat.{mul-le-mul, mul-le-mul_right}
+use native.Mathlib.Nat.{mul-pos, mul-le-mul, mul-le-mul_right}
 use native.Mathlib.Omega.{arith}
 use borrow.Author.Tests.{ne_eqb}
 use Rattle.rules.specs.declared.Shape.{Shape}
 use Rattle.rules.specs.Field.{Kind, quadratic, faces, part_length, Admitted}
 use Rattle.rules.specs.FieldFile.{section_start, table_start, file_length}
 use Rattle.rules.proofs.ShapeLaws.{elements-le, row_more}
-use Rattle.field_layout.proofs.PlaceLaws.{part-le}
+use Rattle.field_layout.proofs.PlaceLaws.{part-is, part-le}
 
 -- ---- any kind of element
 module _ (κ : Kind) (g : Shape) where
@@ -33,6 +33,10 @@ module _ (κ : Kind) (g : Shape) where
 
 -- ---- quadratic elements
 module _ (g : Shape) where
+  -- a tracer has numbers
+  pub part_above : Admitted g → 0 < part_length quadratic g
+  part_above h = omega (arith, part-is g, mul-pos h.nx-above h.ny-above)
+
   -- a tracer's section ends where the next one starts
   pub tracer-end : (s : ℕ) → section_start quadratic g (s + 2) ≡ section_start quadratic g (s + 1) + 4 * part_length quadratic g
   tracer-end s =

@@ -1,13 +1,9 @@
 -- The mark, by std's test of a front.
-use Rattle.std.proofs.Common.{◌≡◌, refl, sym, ap, ◌∙◌, ℕ, ◌+◌, ◌-◌, ◌≤◌, Bool, true, false, ◌&&◌, List, [], ◌∷◌, length, take, drop, get_or, eqb, arith, get_or-drop}
+use Rattle.std.proofs.Common.{◌≡◌, refl, sym, ◌∙◌, ℕ, ◌≤◌, Bool, true, false, ◌&&◌, List, [], ◌∷◌, length, take, get_or, eqb, arith}
 use Rattle.std.specs.Cmp.Lexicographic.{pointwise}
-use Rattle.std.proofs.lemmas.List.{take_rest}
 use native.Mathlib.Decide.{ℕ_discrete}
 use borrow.Author.Tests.{eq-eqb, ne_eqb}
-use lib.ListN.{length-drop}
 use Rattle.whole.specs.Sum.{all}
-use Rattle.whole.proofs.SumLaws.{all-cong}
-use Rattle.rules.specs.Bytes.{byte_at}
 use Rattle.rules.specs.FieldFile.{mark}
 
 eqb-swap : (m n : ℕ) → eqb m n ≡ eqb n m
@@ -32,4 +28,3 @@ marked [] h = absurd (omega arith)
 marked (a ∷ []) h = absurd (omega arith)
 marked (a ∷ b ∷ []) h = absurd (omega arith)
 marked (a ∷ b ∷ c ∷ []) h = absurd (omega arith)
-

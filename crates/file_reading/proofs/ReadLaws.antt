@@ -1,90 +1,105 @@
--- A section read as its own part of the file: its numbers are those of the whole file, and a tracer's are its part of the field.
+-- The stretches of a file: the numbers that a reader finds there are those of the whole file, and its tracers one after the other.
 use mathlib.Core.Path.{◌≡◌, refl, sym, ap, ◌∙◌}
 use mathlib.Core.Bool.{Bool, false}
 use mathlib.Core.List.{List, ◌++◌}
-use Prim.Native.Nat.{ℕ, ◌+◌, ◌-◌, ◌*◌, ◌≤◌, ◌<◌}
-use native.Mathlib.Nat.{zero-add}
+use Prim.Native.Nat.{ℕ, ◌+◌, ◌-◌, ◌*◌, ◌/◌, ◌≤◌, ◌<◌}
+use native.Mathlib.Nat.{zero-add, mul_left_comm, mul-div_cancel}
 use native.Mathlib.Omega.{arith}
 use borrow.Author.Tests.{eq-eqb, ne_eqb}
 use lib.Dec.{eqb}
 use lib.ListN.{length, take, drop}
+use Rattle.std.proofs.lemmas.List.{take-take, drop-take}
 use lib.Seq.{length-take-le}
 use Rattle.whole.specs.Sum.{all}
 use Rattle.whole.specs.Table.{table, overwrite}
 use Rattle.whole.proofs.TableLaws.{get_d-table, table-cong}
 use Rattle.whole.proofs.SumLaws.{all-cong}
-use Rattle.whole.proofs.OverwriteLaws.{part-size, part_room, filled-front}
-use Rattle.whole.proofs.ListParts.{table-part, fill-part}
+use Rattle.whole.proofs.OverwriteLaws.{part_room, filled-front}
+use Rattle.whole.proofs.ListParts.{table-part}
 use Rattle.rules.specs.declared.Shape.{Shape}
-use Rattle.rules.specs.Field.{quadratic, faces, part_length, field_length, part, wind_in_range}
-use Rattle.rules.specs.Calls.{wind_at, wind_sound}
+use Rattle.rules.specs.Field.{quadratic, faces, part_length, field_length, part, sound, wind_in_range}
+use Rattle.rules.specs.Calls.{wind_sound}
 use Rattle.rules.specs.Bytes.{number32, number16}
 use Rattle.rules.specs.FieldFile.{section_start, table_start, file_length, offsets_right, file_wind, file_field}
 use Rattle.file_numbers.specs.Laws.{laws32, laws16}
-use Rattle.file_numbers.proofs.PlaceLaws.{number-part}
+use Rattle.file_numbers.proofs.PlaceLaws.{read-at, number-part}
 use Rattle.file_sections.specs.Numbers.{numbers_of, winds_of}
-use Rattle.file_layout.proofs.LayoutLaws.{tracer-start}
+use Rattle.file_layout.proofs.LayoutLaws.{length-is}
+use Rattle.file_layout.proofs.FileLaws.{field-start, table-start}
+
+-- ---- where the stretches stand, in a file of the right length
+module _ (g : Shape) (file : List ℕ) (long : length file ≡ file_length quadratic g) (tracers table : ℕ) (ht : tracers ≡ section_start quadratic g 1) (hb : table ≡ table_start quadratic g) where
+  pub record Places : Type 0 where
+    pub first : tracers ≡ 2 * faces g
+    pub second : table ≡ tracers + 4 * field_length quadratic g
+    pub room : table ≤ length file
+
+  pub places : Places
+  places = record {
+    first = ht ∙ field-start quadratic g;
+    second = omega (arith, hb, ht, table-start quadratic g, field-start quadratic g);
+    room = omega (arith, hb, long, length-is quadratic g);
+  }
+
+  -- the numbers of the part before the table, cut at the tracers' start
+  pub winds-are : (w : List ℕ) → w ≡ take tracers (take table file) → winds_of w (faces g) ≡ file_wind g file
+  unfolding winds_of file_wind
+  winds-are w e = let p = places in
+      let q : w ≡ take tracers file = e ∙ take-take tracers table file (omega arith) in
+      ap (λ l. winds_of l (faces g)) q ∙ table-cong (faces g) (λ f. number16 (take tracers file) (2 * f)) (λ f. number16 file (2 * f)) (λ f h. number-part laws16 file 0 tracers (2 * f) (omega arith) ∙ ap (number16 file) (zero-add (2 * f)))
+
+  pub tracers-are : (r : List ℕ) → r ≡ drop tracers (take table file) → numbers_of r (field_length quadratic g) ≡ file_field quadratic g file
+  unfolding numbers_of file_field
+  tracers-are r e = let p = places in
+      let n = table - tracers in
+      let q : r ≡ take n (drop tracers file) = e ∙ ap (λ k. drop tracers (take k file)) (omega arith) ∙ drop-take tracers n file in
+      ap (λ l. numbers_of l (field_length quadratic g)) q ∙ table-cong (field_length quadratic g) (λ i. number32 (take n (drop tracers file)) (4 * i)) (λ i. number32 file (section_start quadratic g 1 + 4 * i)) (λ i h. number-part laws32 file tracers n (4 * i) (omega arith) ∙ ap (λ k. number32 file (k + 4 * i)) ht)
+
+-- ---- tests of the stretches
+-- the winds
+pub winds-tested : (g : Shape) (s : List ℕ) → length s ≡ 2 * faces g → all (length s / 2) (λ f. wind_in_range (number16 s (2 * f))) ≡ wind_sound g (winds_of s (faces g))
+unfolding wind_sound winds_of
+winds-tested g s e =
+    let n : length s / 2 ≡ faces g = omega (arith, e) in
+    rw n (all-cong (faces g) _ _ (λ f h. ap wind_in_range (sym (get_d-table (faces g) (λ f. number16 s (2 * f)) f _ h))))
+
+-- tracer s, of n numbers, and how many there are
+module _ (g : Shape) (s : List ℕ) (n : ℕ) (e : n ≡ 4 * part_length quadratic g) (long : length s ≡ 4 * field_length quadratic g) where
+  pub parts-many : 0 < n → length s / n ≡ g.tracers
+  unfolding field_length
+  parts-many h = let m : length s ≡ g.tracers * n = long ∙ sym (mul_left_comm g.tracers 4 (part_length quadratic g)) ∙ ap (λ m. g.tracers * m) (sym e) in ap (λ l. l / n) m ∙ mul-div_cancel g.tracers h
+
+  pub part-tested : (x : List ℕ) (b : Bool) (k : ℕ) → k < g.tracers → x ≡ take n (drop (k * n) s) → b ≡ sound quadratic g (numbers_of x (part_length quadratic g))
+      → b ≡ sound quadratic g (part quadratic g k (numbers_of s (field_length quadratic g)))
+  unfolding part numbers_of field_length
+  part-tested x b k h q t =
+      let w = part_length quadratic g in
+      let same : numbers_of x w ≡ table w (λ i. number32 s (4 * (k * w + i))) = ap (λ l. numbers_of l w) q ∙ table-cong w (λ i. number32 (take n (drop (k * n) s)) (4 * i)) (λ i. number32 s (4 * (k * w + i)))
+      (λ i l. number-part laws32 s (k * n) n (4 * i) (omega arith) ∙ ap (number32 s) (omega (arith, ap (λ m. k * m) e, mul_left_comm k 4 w))) in
+      t ∙ ap (sound quadratic g) (same ∙ sym (table-part (k * w) w (g.tracers * w) (λ i. number32 s (4 * i)) (part_room w h)))
 
 -- ---- numbers that are read into the front of a buffer
-pub front-filled : {A : Type 0} (n : ℕ) (f : ℕ → A) (p l : List A) → n ≤ length l → p ≡ table (length (take n l)) f → p ++ drop n l ≡ overwrite 0 (table n f) l
-front-filled n f p l h e = ap (λ r. r ++ drop n l) (e ∙ ap (λ k. table k f) (length-take-le n l h)) ∙ filled-front n f l
-
--- ---- the wind section
-module _ (g : Shape) (file : List ℕ) (start k : ℕ) (first : start ≡ 0) (long : 2 * faces g ≤ k) where
-  wind-number : (f : ℕ) → f < faces g → number16 (take k (drop start file)) (2 * f) ≡ number16 file (2 * f)
-  wind-number f h = number-part laws16 file start k (2 * f) (omega arith) ∙ ap (λ n. number16 file (n + 2 * f)) first ∙ ap (number16 file) (zero-add (2 * f))
-
-  pub winds-are : winds_of (take k (drop start file)) (faces g) ≡ file_wind g file
-  unfolding winds_of file_wind
-  winds-are = table-cong (faces g) (λ f. number16 (take k (drop start file)) (2 * f)) (λ f. number16 file (2 * f)) wind-number
-
-  pub winds-tested : all (faces g) (λ f. wind_in_range (number16 (take k (drop start file)) (2 * f))) ≡ wind_sound g (file_wind g file)
-  unfolding wind_sound file_wind
-  winds-tested = all-cong (faces g) (λ f. wind_in_range (number16 (take k (drop start file)) (2 * f))) (λ f. wind_in_range (wind_at (file_wind g file) f))
-      (λ f h. ap wind_in_range (wind-number f h ∙ sym (get_d-table (faces g) (λ f. number16 file (2 * f)) f _ h)))
-
--- ---- a tracer's section
-module _ (g : Shape) (file : List ℕ) where
-  -- number i of the field in the file
-  abbrev pub field_number : ℕ → ℕ
-  field_number i = number32 file (section_start quadratic g 1 + 4 * i)
-
-  pub field-numbers : table (field_length quadratic g) field_number ≡ file_field quadratic g file
-  unfolding file_field
-  field-numbers = refl
-
-  pub section-numbers : (s start k : ℕ) → start ≡ section_start quadratic g (s + 1) → k ≡ 4 * part_length quadratic g
-      → numbers_of (take k (drop start file)) (part_length quadratic g) ≡ table (part_length quadratic g) (λ i. field_number (s * part_length quadratic g + i))
-  unfolding numbers_of
-  section-numbers s start k hs hk =
-      let n = part_length quadratic g in
-      table-cong n (λ i. number32 (take k (drop start file)) (4 * i)) (λ i. field_number (s * n + i))
-      (λ i h. let e : start + 4 * i ≡ section_start quadratic g 1 + 4 * (s * n + i) = omega (arith, tracer-start quadratic g s, tracer-start quadratic g 0) in
-      number-part laws32 file start k (4 * i) (omega arith) ∙ ap (number32 file) e)
-
-  -- read as its own part, it is the tracer's part of the field
-  pub section-part : (s start k : ℕ) → s < g.tracers → start ≡ section_start quadratic g (s + 1) → k ≡ 4 * part_length quadratic g
-      → numbers_of (take k (drop start file)) (part_length quadratic g) ≡ part quadratic g s (file_field quadratic g file)
-  unfolding part file_field field_length
-  section-part s start k h hs hk = section-numbers s start k hs hk
-      ∙ sym (table-part (s * part_length quadratic g) (part_length quadratic g) (g.tracers * part_length quadratic g) field_number (part_room (part_length quadratic g) h))
-
-  -- a turn of the reading: the section's numbers come after those that were read before
-  pub tracer-read : (s start k to n m : ℕ) (l p ys : List ℕ) → start ≡ section_start quadratic g (s + 1) → k ≡ 4 * part_length quadratic g → n ≡ part_length quadratic g → to ≡ s * n → m ≡ n
-      → to + n ≤ length p → p ≡ table to field_number ++ drop to l → ys ≡ numbers_of (take k (drop start file)) (length (take m (drop to p)))
-      → take to p ++ (ys ++ drop m (drop to p)) ≡ table (to + n) field_number ++ drop (to + n) l
-  tracer-read s start k to n m l p ys hs hk hn ht hm room hp hy =
-      let numbers = numbers_of (take k (drop start file)) in
-      let there : to ≡ s * part_length quadratic g = ht ∙ ap (λ x. s * x) hn in
-      let read : numbers n ≡ table n (λ i. field_number (to + i)) =
-      ap numbers hn ∙ section-numbers s start k hs hk ∙ (λ j. table (sym hn j) (λ i. field_number (sym there j + i))) in
-      let size : length (take m (drop to p)) ≡ n = part-size n to m p hm room in
-      fill-part to n m field_number ys l p hm hp (hy ∙ ap numbers size ∙ read)
+pub front-filled : {A : Type 0} (k n : ℕ) (f : ℕ → A) (t p l : List A) → k ≡ n → n ≤ length l → p ≡ table (length (take k l)) f → table n f ≡ t → p ++ drop k l ≡ overwrite 0 t l
+front-filled k n f t p l q h e w =
+    let size : length (take k l) ≡ n = ap (λ m. length (take m l)) q ∙ length-take-le n l h in
+    (λ i. (e ∙ ap (λ m. table m f) size) i ++ drop (q i) l) ∙ filled-front n f l ∙ ap (λ x. overwrite 0 x l) w
 
 -- ---- the test of length and offsets
+-- a number, read from its place on
+pub place-at : (file : List ℕ) (at : ℕ) → number32 (take (length file - at) (drop at file)) 0 ≡ number32 file at
+place-at file at = read-at laws32 file at _ refl
+
 module _ (g : Shape) (file : List ℕ) where
   abbrev pub offset : ℕ → Bool
   offset i = eqb (number32 file (table_start quadratic g + 4 * i)) (section_start quadratic g i)
+
+  -- entry k of the table's n bytes, with its section
+  pub entry-right : (table n : ℕ) → table ≡ table_start quadratic g → (i k : ℕ) (x : List ℕ) (b : Bool) → k * 4 + 4 ≤ n → i ≡ k → x ≡ take 4 (drop (k * 4) (take n (drop table file)))
+      → b ≡ eqb (number32 x 0) (section_start quadratic g i) → b ≡ offset k
+  entry-right table n hb i k x b h e q t =
+      let l = take n (drop table file) in
+      let there : number32 x 0 ≡ number32 file (table_start quadratic g + 4 * k) = ap (λ y. number32 y 0) q ∙ laws32.cut l (k * 4) ∙ number-part laws32 file table n (k * 4) h ∙ ap (number32 file) (omega (arith, hb)) in
+      t ∙ (λ j. eqb (there j) (section_start quadratic g (e j)))
 
   pub wrong-length : (length file ≡ file_length quadratic g → ⊥) → false ≡ offsets_right quadratic g file
   unfolding offsets_right

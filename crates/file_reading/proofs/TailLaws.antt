@@ -1,11 +1,14 @@
 -- Which tests of the tail lead to which answer.
-use mathlib.Core.Path.{◌≡◌}
+use mathlib.Core.Path.{◌≡◌, ap}
 use mathlib.Core.Bool.{Bool, true, false}
 use mathlib.Core.List.{List}
 use Prim.Native.Nat.{ℕ, ◌+◌, ◌-◌, ◌≤◌, ◌<◌}
 use borrow.Author.Tests.{lt-leb, le-leb, eq-eqb, ne_eqb}
 use lib.Dec.{eqb}
-use lib.ListN.{length, get_or}
+use lib.ListN.{length, get_or, take, drop}
+use lib.Seq.{get_or-drop}
+use Rattle.std.proofs.lemmas.List.{take_rest}
+use Rattle.whole.proofs.SumLaws.{all-cong}
 use Rattle.whole.specs.Sum.{all}
 use Rattle.rules.specs.Answers.{accepted, refused, answer}
 use Rattle.rules.specs.Field.{admitted}
@@ -14,8 +17,12 @@ use Rattle.rules.specs.FieldFile.{mark, tail_shape, tail_right}
 use Rattle.file_reading.specs.Reading.{tail_reply}
 
 module _ (file : List ℕ) where
-  abbrev marked : Bool
+  abbrev pub marked : Bool
   marked = all 4 (λ i. eqb (byte_at file (length file - 4 + i)) (get_or mark i 0))
+
+  -- the same, of the bytes from the mark's place on
+  pub mark-tested : all 4 (λ i. eqb (byte_at (take (length file - (length file - 4)) (drop (length file - 4) file)) i) (get_or mark i 0)) ≡ marked
+  mark-tested = rw (take_rest file (length file - 4)) (all-cong 4 _ _ (λ i _. ap (λ b. eqb b (get_or mark i 0)) (get_or-drop (length file - 4) file i 0)))
 
   pub tail-short : length file < 12 → refused 1 ≡ tail_reply file
   unfolding tail_reply answer tail_right

@@ -1,13 +1,23 @@
 // The checks of a file that need its shape: 3 to 6. Leaves of `read`.
-ghost use Rattle.std.specs.Prelude.{◌≡◌, length};
+ghost use Rattle.std.specs.Prelude.{◌≡◌, ◌*◌, ◌≤◌, eqb, length};
 ghost use Rattle.rules.specs.Answers.{answered};
-ghost use Rattle.rules.specs.Field.{quadratic};
-ghost use Rattle.rules.specs.FieldFile.{file_length, offsets_right, file_field, field_sound};
+ghost use Rattle.rules.specs.Field.{quadratic, field_length};
+ghost use Rattle.rules.specs.Bytes.{number32};
+ghost use Rattle.rules.specs.FieldFile.{offsets_right, field_sound};
+ghost use Rattle.file_sections.specs.Numbers.{numbers_of};
 ghost use Rattle.file_reading.specs.Reading.{shape_reply};
 
 use field_layout::Grid;
 use file_numbers::Stored;
 use rules::Refusal;
+
+// Whether these bytes begin with this place of the file.
+fn is_place(bytes: &[u8], place: usize) -> bool
+    requires { 4 ≤ length bytes.now }
+    ensures { result ≡ eqb (number32 bytes.now 0) place }
+{
+    usize::try_from(u32::read(bytes)) == Ok(place)
+}
 
 // Whether length and offsets of the file are what the shape gives.
 fn offsets_right(file: &[u8], grid: Grid) -> bool
@@ -18,32 +28,23 @@ fn offsets_right(file: &[u8], grid: Grid) -> bool
         return false;
     }
     let table = file_layout::table_start(grid);
-    if u32::read(&file[n - 8..]) as usize != table {
+    if !is_place(&file[n - 8..], table) {
         return false;
     }
-    let count = grid.shape.tracers + 1;
-    for i in 0..count {
-        if u32::read(&file[table + 4 * i..]) as usize != file_layout::section_start(grid, i) {
-            return false;
-        }
-    }
-    true
+    file[table..n - 12].chunks_exact(4).enumerate().all(|(i, offset)| is_place(
+        offset,
+        file_layout::section_start(grid, i),
+    ))
 }
 
 // Whether every tracer's section is sound.
-fn tracers_sound(file: &[u8], grid: Grid) -> bool
-    requires { length file.now ≡ file_length quadratic grid.shape }
-    ensures { result ≡ field_sound quadratic grid.shape (file_field quadratic grid.shape file.now) }
+fn tracers_sound(sections: &[u8], grid: Grid) -> bool
+    requires { length sections.now ≡ 4 * field_length quadratic grid.shape }
+    ensures { result ≡ field_sound quadratic grid.shape (numbers_of sections.now (field_length quadratic grid.shape)) }
 {
-    let tracers = grid.shape.tracers;
-    for s in 0..tracers {
-        let start = file_layout::section_start(grid, s + 1);
-        let end = file_layout::section_start(grid, s + 2);
-        if !file_sections::search::tracer_sound(&file[start..end], grid) {
-            return false;
-        }
-    }
-    true
+    sections.chunks_exact(4 * grid.part_length()).all(|section| file_sections::search::tracer_sound(
+        section, grid,
+    ))
 }
 
 // The checks 3 to 6, for buffers of these lengths.
@@ -56,16 +57,14 @@ pub(crate) fn check(file: &[u8], field: usize, wind: usize, grid: Grid) -> Resul
     if field < grid.field_length() {
         return Err(Refusal::ShortBuffer);
     }
-    let faces = grid.faces();
-    if wind < faces {
+    if wind < grid.faces() {
         return Err(Refusal::ShortBuffer);
     }
-    let start = file_layout::section_start(grid, 0);
-    let end = file_layout::section_start(grid, 1);
-    if !file_sections::winds_sound(&file[start..end]) {
+    let (winds, tracers) = crate::sections(file, grid);
+    if !file_sections::winds_sound(winds) {
         return Err(Refusal::WindOutOfRange);
     }
-    if !tracers_sound(file, grid) {
+    if !tracers_sound(tracers, grid) {
         return Err(Refusal::UnsoundTracer);
     }
     Ok(())

@@ -2,11 +2,11 @@
 // A call has no `requires`: what document 01 doesn't admit is refused by its number, and a refused call writes nothing.
 #![tactic(auto)]
 
-ghost use Rattle.std.specs.Prelude.{◌≡◌, ◌≤◌, length};
-ghost use Rattle.whole.specs.Table.{overwrite};
+ghost use Rattle.std.specs.Prelude.{◌≡◌, ◌*◌, length};
 ghost use Rattle.rules.specs.Field.{quadratic, faces, field_length};
 ghost use Rattle.rules.specs.FieldFile.{file_length, file_wind, file_field, ReadGives};
 ghost use Rattle.rules.specs.Answers.{answers};
+ghost use Rattle.file_sections.specs.Numbers.{numbers_of, winds_of};
 
 use field_layout::Grid;
 use rules::{Refusal, Shape};
@@ -14,47 +14,28 @@ use rules::{Refusal, Shape};
 mod checks; // checks.rt: the checks that need the shape
 mod tail; // tail.rt: the last 12 bytes
 
-// Reads the wind section.
-fn read_wind(file: &[u8], wind: &mut [i16], grid: Grid)
-    requires file_len { length file.now ≡ file_length quadratic grid.shape }
-    requires shape_in_bounds { faces grid.shape ≤ length wind.old }
-    ensures { wind.new ≡ overwrite 0 (file_wind grid.shape file.now) wind.old }
+// The wind section, and the tracers' sections one after the other, in a file of the right length.
+fn sections(file: &[u8], grid: Grid) -> (&[u8], &[u8])
+    requires { length file.now ≡ file_length quadratic grid.shape }
+    ensures winds_length { length result.0.now ≡ 2 * faces grid.shape }
+    ensures winds { winds_of result.0.now (faces grid.shape) ≡ file_wind grid.shape file.now }
+    ensures tracers_length { length result.1.now ≡ 4 * field_length quadratic grid.shape }
+    ensures tracers { numbers_of result.1.now (field_length quadratic grid.shape) ≡ file_field quadratic grid.shape file.now }
 {
-    let start = file_layout::section_start(grid, 0);
-    let end = file_layout::section_start(grid, 1);
-    let faces = grid.faces();
-    file_sections::read_all(&file[start..end], &mut wind[..faces]);
-}
-
-// Reads every tracer's section into its part of the field.
-fn read_tracers(file: &[u8], field: &mut [u32], grid: Grid)
-    requires file_len { length file.now ≡ file_length quadratic grid.shape }
-    requires shape_in_bounds { field_length quadratic grid.shape ≤ length field.old }
-    ensures { field.new ≡ overwrite 0 (file_field quadratic grid.shape file.now) field.old }
-{
-    let n = grid.part_length();
-    let tracers = grid.shape.tracers;
-    let mut to = 0;
-    for s in 0..tracers {
-        let from = file_layout::section_start(grid, s + 1);
-        let from_end = file_layout::section_start(grid, s + 2);
-        let to_end = to + n;
-        file_sections::read_all(&file[from..from_end], &mut field[to..to_end]);
-        to = to_end;
-    }
+    let tracers = file_layout::section_start(grid, 1);
+    let table = file_layout::table_start(grid);
+    file[..table].split_at(tracers)
 }
 
 // Reads a file into field and wind, and answers its shape.
 pub fn read(file: &[u8], field: &mut [u32], wind: &mut [i16]) -> Result<Shape, Refusal>
     ensures { ReadGives quadratic file.now field.old wind.old (answers result) field.new wind.new }
 {
-    let tail = tail::read_tail(file);
-    let Ok(shape) = tail else {
-        return tail;
-    };
+    let shape = tail::read_tail(file)?;
     let grid = Grid { shape };
     checks::check(file, field.len(), wind.len(), grid)?;
-    read_wind(file, wind, grid);
-    read_tracers(file, field, grid);
+    let (winds, tracers) = sections(file, grid);
+    file_sections::read_all(winds, &mut wind[..grid.faces()]);
+    file_sections::read_all(tracers, &mut field[..grid.field_length()]);
     Ok(shape)
 }

@@ -12,7 +12,7 @@ pub(crate) fn read_tail(file: &[u8]) -> Result<Shape, Refusal>
     if n < 12 {
         return Err(Refusal::NoFieldFile);
     }
-    if !file_layout::is_mark(file, n - 4) {
+    if !file_layout::is_mark(&file[n - 4..]) {
         return Err(Refusal::NoFieldFile);
     }
     if file[n - 9] != 0 {

@@ -1,20 +1,16 @@
--- The checks 3 to 6 of a file: each test is the definition's, since each section is lent where the layout puts it.
+-- The checks 3 to 6 of a file: each test is the definition's.
 use mathlib.Core.Path.{◌≡◌, sym, ap, ◌∙◌}
 use mathlib.Core.Bool.{true}
-use Prim.Native.Nat.{◌-◌, ◌*◌, ◌≤◌}
+use Prim.Native.Nat.{◌≤◌}
 use native.Mathlib.Omega.{arith}
-use lib.ListN.{length, take, drop}
-use Rattle.whole.specs.Sum.{all}
-use Rattle.whole.proofs.OverwriteLaws.{part-size}
-use Rattle.rules.specs.Field.{quadratic, faces, field_length, wind_in_range}
+use lib.ListN.{length}
+use Rattle.rules.specs.Field.{quadratic, faces, field_length}
 use Rattle.rules.specs.Calls.{wind_sound}
-use Rattle.rules.specs.Bytes.{number16}
-use Rattle.rules.specs.FieldFile.{file_length, offsets_right, file_wind}
-use Rattle.file_layout.proofs.LayoutLaws.{wind-span}
+use Rattle.rules.specs.FieldFile.{file_length, offsets_right, file_wind, file_field, field_sound}
 use Rattle.file_reading.proofs.ReadLaws.{winds-tested}
 use Rattle.file_reading.proofs.CheckLaws.{check-3, check-4-field, check-4-wind, check-5, check-6, check_done, right-length}
 use Rattle.file_reading.proofs.checks.check.Goals as goal
-use Rattle.file_reading.proofs.checks.check.Goals.{After-section_start-end, After-winds_sound, Else-field-field_length, Else-not-offsets_right, Else-wind-faces}
+use Rattle.file_reading.proofs.checks.check.Goals.{After-tracers_sound, After-winds_sound, Else-field-field_length, Else-not-offsets_right, Else-wind-faces}
 
 pub returns-then-not-offsets_right : goal.returns-then-not-offsets_right
 returns-then-not-offsets_right c =
@@ -39,57 +35,37 @@ fields c = omega (arith, c.field_length.ensures, c.if-field-field_length.false)
 pub returns-then-wind-faces : goal.returns-then-wind-faces
 returns-then-wind-faces c =
     let a = c.args in
-    check-4-wind a.grid.shape a.file.now a.field a.wind (right (goal.at.returns-then-wind-faces c).Else-not-offsets_right) (fields (goal.at.returns-then-wind-faces c).Else-field-field_length) (omega (arith, c.faces-faces.ensures, c.if-wind-faces.true))
+    check-4-wind a.grid.shape a.file.now a.field a.wind (right (goal.at.returns-then-wind-faces c).Else-not-offsets_right) (fields (goal.at.returns-then-wind-faces c).Else-field-field_length) (omega (arith, c.faces.ensures, c.if-wind-faces.true))
 
 winds : (c : Else-wind-faces) → faces c.args.grid.shape ≤ c.args.wind
-winds c = omega (arith, c.faces-faces.ensures, c.if-wind-faces.false)
+winds c = omega (arith, c.faces.ensures, c.if-wind-faces.false)
 
--- the wind section, in a file of the right length
-span : (c : After-section_start-end) → length c.args.file.now ≡ file_length quadratic c.args.grid.shape
-    → (c.section_start-start.result ≡ 0) × (c.section_start-end.result ≡ 2 * faces c.args.grid.shape) × (c.section_start-end.result ≤ length c.args.file.now)
-span c h =
-    let t = wind-span c.args.grid.shape c.section_start-start.result c.section_start-end.result c.section_start-start.ensures c.section_start-end.ensures in
-    (t.0, t.1, omega (arith, t.2, h))
+pub sections-requires : goal.sections-requires
+sections-requires c = long (goal.at.sections-requires c).Else-not-offsets_right
 
-pub slice_bounds-winds_sound-count : goal.slice_bounds-winds_sound-count
-slice_bounds-winds_sound-count c = let p = goal.at.slice_bounds-winds_sound-count c in omega (arith, span p.After-section_start-end (long p.Else-not-offsets_right))
+-- the tests of the sections are of the wind and the field that the file holds
+winds-tests : (c : After-winds_sound) → c.winds_sound.result ≡ wind_sound c.args.grid.shape (file_wind c.args.grid.shape c.args.file.now)
+winds-tests c =
+    let g = c.args.grid.shape in
+    c.winds_sound.ensures ∙ winds-tested g _ c.sections.ensures.winds_length ∙ ap (wind_sound g) c.sections.ensures.winds
 
-pub slice_bounds-winds_sound-start : goal.slice_bounds-winds_sound-start
-slice_bounds-winds_sound-start c = let p = goal.at.slice_bounds-winds_sound-start c in omega (arith, span p.After-section_start-end (long p.Else-not-offsets_right))
-
-pub slice_bounds-winds_sound-end : goal.slice_bounds-winds_sound-end
-slice_bounds-winds_sound-end c = let p = goal.at.slice_bounds-winds_sound-end c in omega (arith, span p.After-section_start-end (long p.Else-not-offsets_right))
-
--- the test of the wind section is of the wind that the file holds
-tested : (c : After-winds_sound) → (c.section_start-start.result ≡ 0) × (c.section_start-end.result ≡ 2 * faces c.args.grid.shape) × (c.section_start-end.result ≤ length c.args.file.now)
-    → c.winds_sound.result ≡ wind_sound c.args.grid.shape (file_wind c.args.grid.shape c.args.file.now)
-tested c t =
-    let a = c.args in
-    let start = c.section_start-start.result in
-    let size = c.section_start-end.result - start in
-    let n = part-size (2 * faces a.grid.shape) start size a.file.now (omega (arith, t)) (omega (arith, t)) in
-    c.winds_sound.ensures ∙ ap (λ n. all n (λ f. wind_in_range (number16 (take size (drop start a.file.now)) (2 * f)))) (omega (arith, n)) ∙ winds-tested a.grid.shape a.file.now start size t.0 (omega (arith, t))
+tracers-tests : (c : After-tracers_sound) → c.tracers_sound.result ≡ field_sound quadratic c.args.grid.shape (file_field quadratic c.args.grid.shape c.args.file.now)
+tracers-tests c = c.tracers_sound.ensures ∙ ap (field_sound quadratic c.args.grid.shape) c.sections.ensures.tracers
 
 pub returns-then-not-winds_sound : goal.returns-then-not-winds_sound
 returns-then-not-winds_sound c =
     let a = c.args in
     let p = goal.at.returns-then-not-winds_sound c in
-    let t = span p.After-section_start-end (long p.Else-not-offsets_right) in
-    check-5 a.grid.shape a.file.now a.field a.wind (right p.Else-not-offsets_right) (fields p.Else-field-field_length) (winds p.Else-wind-faces) (sym (tested p.After-winds_sound t) ∙ c.if-not-winds_sound.true)
-
-pub tracers_sound-requires : goal.tracers_sound-requires
-tracers_sound-requires c = long (goal.at.tracers_sound-requires c).Else-not-offsets_right
+    check-5 a.grid.shape a.file.now a.field a.wind (right p.Else-not-offsets_right) (fields p.Else-field-field_length) (winds p.Else-wind-faces) (sym (winds-tests p.After-winds_sound) ∙ c.if-not-winds_sound.true)
 
 pub returns-then-not-tracers_sound : goal.returns-then-not-tracers_sound
 returns-then-not-tracers_sound c =
     let a = c.args in
     let p = goal.at.returns-then-not-tracers_sound c in
-    let t = span p.After-section_start-end (long p.Else-not-offsets_right) in
-    check-6 a.grid.shape a.file.now a.field a.wind (right p.Else-not-offsets_right) (fields p.Else-field-field_length) (winds p.Else-wind-faces) (sym (tested p.After-winds_sound t) ∙ c.if-not-winds_sound.false) (sym c.tracers_sound.ensures ∙ c.if-not-tracers_sound.true)
+    check-6 a.grid.shape a.file.now a.field a.wind (right p.Else-not-offsets_right) (fields p.Else-field-field_length) (winds p.Else-wind-faces) (sym (winds-tests p.After-winds_sound) ∙ c.if-not-winds_sound.false) (sym (tracers-tests p.After-tracers_sound) ∙ c.if-not-tracers_sound.true)
 
 pub returns : goal.returns
 returns c =
     let a = c.args in
     let p = goal.at.returns c in
-    let t = span p.After-section_start-end (long p.Else-not-offsets_right) in
-    check_done a.grid.shape a.file.now a.field a.wind (right p.Else-not-offsets_right) (fields p.Else-field-field_length) (winds p.Else-wind-faces) (sym (tested p.After-winds_sound t) ∙ c.if-not-winds_sound.false) (sym c.tracers_sound.ensures ∙ c.if-not-tracers_sound.false)
+    check_done a.grid.shape a.file.now a.field a.wind (right p.Else-not-offsets_right) (fields p.Else-field-field_length) (winds p.Else-wind-faces) (sym (winds-tests p.After-winds_sound) ∙ c.if-not-winds_sound.false) (sym (tracers-tests p.After-tracers_sound) ∙ c.if-not-tracers_sound.false)

@@ -1,63 +1,35 @@
-use mathlib.Core.Path.{◌≡◌, refl, sym, ap, ◌∙◌}
-use Prim.Native.Nat.{◌+◌, ◌-◌, ◌*◌, ◌≤◌}
-use native.Mathlib.Omega.{arith}
-use lib.ListN.{length}
-use Rattle.whole.specs.Sum.{all}
-use Rattle.whole.proofs.OverwriteLaws.{part-size}
-use Rattle.rules.specs.Field.{quadratic, part, sound, part_length}
-use Rattle.rules.specs.FieldFile.{file_field, field_sound}
-use Rattle.whole.proofs.SumLaws.{all_more, all-fails}
-use Rattle.file_layout.proofs.LayoutLaws.{tracer-span}
-use Rattle.file_reading.proofs.ReadLaws.{section-part}
+-- The sections, cut where each tracer's begins: every part is the numbers of its tracer.
+use Rattle.std.proofs.Common.{◌<◌, ◌*◌, ap, rules, arith}
+use Rattle.rules.specs.Field.{quadratic, sound, part, field_length}
+use Rattle.rules.specs.FieldFile.{field_sound}
+use Rattle.field_layout.proofs.PlaceLaws.{part-le}
+use Rattle.field_search.proofs.RunLaws.{chunks-all}
+use Rattle.file_layout.proofs.LayoutLaws.{part_above}
+use Rattle.file_sections.specs.Numbers.{numbers_of}
+use Rattle.file_reading.proofs.ReadLaws.{parts-many, part-tested}
 use Rattle.file_reading.proofs.checks.tracers_sound.Goals as goal
-use Rattle.file_reading.proofs.checks.tracers_sound.Goals.{After-section_start-end, After-tracer_sound}
+use Rattle.file_reading.proofs.checks.tracers_sound.Goals.{After-part_length}
 
-pub loop-s-init : goal.loop-s-init
-unfolding all
-loop-s-init c = (omega arith, refl)
+pub overflow_mul-part_length : goal.overflow_mul-part_length
+overflow_mul-part_length c = record { fits = omega (arith, c.part_length.ensures, part-le c.args.grid.shape c.args.grid.admitted) }
 
--- the section of a turn
-span : (c : After-section_start-end) → (c.section_start-end.result ≡ c.section_start-start.result + 4 * part_length quadratic c.args.grid.shape) × (c.section_start-end.result ≤ length c.args.file.now)
-span c =
-    let t = tracer-span c.args.grid.shape c.loop-s.s c.section_start-start.result c.section_start-end.result c.loop-s-test.true c.section_start-start.ensures c.section_start-end.ensures in
-    (t.0, omega (arith, t.1, c.requires))
+-- a part has numbers
+above : (c : After-part_length) → 0 < 4 * c.part_length.result
+above c = omega (arith, c.part_length.ensures, part_above c.args.grid.shape c.args.grid.admitted)
 
-pub slice_bounds-tracer_sound-count : goal.slice_bounds-tracer_sound-count
-slice_bounds-tracer_sound-count c = omega (arith, span (goal.at.slice_bounds-tracer_sound-count c).After-section_start-end)
+pub chunks_exact-requires : goal.chunks_exact-requires
+chunks_exact-requires c = above (goal.at.chunks_exact-requires c).After-part_length
 
-pub slice_bounds-tracer_sound-start : goal.slice_bounds-tracer_sound-start
-slice_bounds-tracer_sound-start c = omega (arith, span (goal.at.slice_bounds-tracer_sound-start c).After-section_start-end)
-
-pub slice_bounds-tracer_sound-end : goal.slice_bounds-tracer_sound-end
-slice_bounds-tracer_sound-end c = omega (arith, span (goal.at.slice_bounds-tracer_sound-end c).After-section_start-end)
-
-pub tracer_sound-requires : goal.tracer_sound-requires
-tracer_sound-requires c =
-    part-size (4 * part_length quadratic c.args.grid.shape) c.section_start-start.result (c.section_start-end.result - c.section_start-start.result) c.args.file.now (omega (arith, span (goal.at.tracer_sound-requires c).After-section_start-end)) (omega (arith, span (goal.at.tracer_sound-requires c).After-section_start-end))
-
--- the test of a turn is of the tracer's part of the field
-tested : (c : After-tracer_sound) → c.tracer_sound.result ≡ sound quadratic c.args.grid.shape (part quadratic c.args.grid.shape c.loop-s.s (file_field quadratic c.args.grid.shape c.args.file.now))
-tested c =
-    let a = c.args in
-    c.tracer_sound.ensures ∙ ap (sound quadratic a.grid.shape) (section-part a.grid.shape a.file.now c.loop-s.s c.section_start-start.result (c.section_start-end.result - c.section_start-start.result) c.loop-s-test.true c.section_start-start.ensures (omega (
-      arith,
-      (let h : (c.section_start-end.result ≡ c.section_start-start.result + 4 * part_length quadratic c.args.grid.shape) × (c.section_start-end.result ≤ length c.args.file.now) = let t = tracer-span c.args.grid.shape c.loop-s.s c.section_start-start.result c.section_start-end.result c.loop-s-test.true c.section_start-start.ensures c.section_start-end.ensures in
-          (t.0, omega (arith, t.1, c.requires)) in h),
-    )))
-
-pub returns-then-not-tracer_sound : goal.returns-then-not-tracer_sound
-unfolding field_sound
-returns-then-not-tracer_sound c =
-    let t = (goal.at.returns-then-not-tracer_sound c).After-tracer_sound in
-    let a = t.args in
-    sym (all-fails a.grid.shape.tracers (λ t. sound quadratic a.grid.shape (part quadratic a.grid.shape t (file_field quadratic a.grid.shape a.file.now))) t.loop-s.s (omega arith) (sym (tested t) ∙ c.if-not-tracer_sound.true))
-
-pub loop-s-preserved : goal.loop-s-preserved
-loop-s-preserved c =
-    let t = (goal.at.loop-s-preserved c).After-tracer_sound in
-    let a = t.args in
-    (omega arith, all_more t.loop-s.s (λ t. sound quadratic a.grid.shape (part quadratic a.grid.shape t (file_field quadratic a.grid.shape a.file.now))) t.loop-s.invariant.1 (sym (tested t) ∙ c.if-not-tracer_sound.false))
+pub all-requires-clause-can : goal.all-requires-clause-can
+all-requires-clause-can c = omega (arith, above (goal.at.all-requires-clause-can c).After-part_length, c.chunks_exact.ensures.size)
 
 pub returns : goal.returns
 unfolding field_sound
-returns c = let e : c.loop-s.s ≡ c.args.grid.shape.tracers = omega arith in sym (rw e at c.loop-s.invariant.1)
+returns c =
+    let g = c.args.grid.shape in
+    let s = c.args.sections.now in
+    let n = 4 * c.part_length.result in
+    let e = ap (λ m. 4 * m) c.part_length.ensures in
+    let h = above (goal.at.returns c).After-part_length in
+    chunks-all _ _ n g.tracers s (λ k. sound quadratic g (part quadratic g k (numbers_of s (field_length quadratic g))))
+    (λ x b k l q t. part-tested g s n e c.requires x.now b k l q (search rules)) c.chunks_exact.result c.all.result h (parts-many g s n e c.requires h) (λ p q. grind (arith, c.chunks_exact.ensures)) (λ a r q k. search rules) c.all.ensures.runs

@@ -1,13 +1,8 @@
 -- The tail: each test on the last 12 bytes is a check of the definition, and its first three bytes are the shape.
 use mathlib.Core.Path.{◌≡◌, sym, ◌∙◌}
 use mathlib.Core.Bool.{true}
-use Prim.Native.Nat.{◌+◌, ◌-◌}
-use lib.Dec.{eqb}
-use lib.ListN.{length, get_or}
-use Rattle.whole.specs.Sum.{all}
-use Rattle.rules.specs.Bytes.{byte_at}
-use Rattle.rules.specs.FieldFile.{mark, tail_shape}
-use Rattle.file_reading.proofs.TailLaws.{tail-short, tail-unmarked, tail-fourth, tail-bad-shape, tail-found}
+use Rattle.rules.specs.FieldFile.{tail_shape}
+use Rattle.file_reading.proofs.TailLaws.{marked, mark-tested, tail-short, tail-unmarked, tail-fourth, tail-bad-shape, tail-found}
 use Rattle.file_reading.proofs.tail.read_tail.Goals as goal
 use Rattle.file_reading.proofs.tail.read_tail.Goals.{Else-not-is_mark}
 
@@ -15,25 +10,25 @@ pub returns-then-n-lt12 : goal.returns-then-n-lt12
 returns-then-n-lt12 c = tail-short c.args.file.now c.if-n-lt12.true
 
 pub returns-then-not-is_mark : goal.returns-then-not-is_mark
-returns-then-not-is_mark c = tail-unmarked c.args.file.now c.if-n-lt12.false (sym c.is_mark.ensures ∙ c.if-not-is_mark.true)
+returns-then-not-is_mark c = tail-unmarked c.args.file.now c.if-n-lt12.false (sym (c.is_mark.ensures ∙ mark-tested c.args.file.now) ∙ c.if-not-is_mark.true)
 
 -- the mark was found
-marked : (c : Else-not-is_mark) → all 4 (λ i. eqb (byte_at c.args.file.now (length c.args.file.now - 4 + i)) (get_or mark i 0)) ≡ true
-marked c = sym c.is_mark.ensures ∙ c.if-not-is_mark.false
+found : (c : Else-not-is_mark) → marked c.args.file.now ≡ true
+found c = sym (c.is_mark.ensures ∙ mark-tested c.args.file.now) ∙ c.if-not-is_mark.false
 
 pub returns-then-file-n-ne0 : goal.returns-then-file-n-ne0
 returns-then-file-n-ne0 c =
-    tail-fourth c.args.file.now c.if-n-lt12.false (marked (goal.at.returns-then-file-n-ne0 c).Else-not-is_mark) c.if-file-n-ne0.true
+    tail-fourth c.args.file.now c.if-n-lt12.false (found (goal.at.returns-then-file-n-ne0 c).Else-not-is_mark) c.if-file-n-ne0.true
 
 pub returns-then-not-admitted : goal.returns-then-not-admitted
 unfolding tail_shape
 returns-then-not-admitted c =
-    tail-bad-shape c.args.file.now c.if-n-lt12.false (marked (goal.at.returns-then-not-admitted c).Else-not-is_mark) c.if-file-n-ne0.false
+    tail-bad-shape c.args.file.now c.if-n-lt12.false (found (goal.at.returns-then-not-admitted c).Else-not-is_mark) c.if-file-n-ne0.false
     (rw (c.from.ensures, c.from-2.ensures, c.from-3.ensures) at (sym c.admitted.ensures ∙ c.if-not-admitted.true))
 
 pub returns : goal.returns
 unfolding tail_shape
 returns c =
     rw (c.from.ensures, c.from-2.ensures, c.from-3.ensures)
-    (tail-found c.args.file.now c.if-n-lt12.false (marked (goal.at.returns c).Else-not-is_mark) c.if-file-n-ne0.false
+    (tail-found c.args.file.now c.if-n-lt12.false (found (goal.at.returns c).Else-not-is_mark) c.if-file-n-ne0.false
     (rw (c.from.ensures, c.from-2.ensures, c.from-3.ensures) at (sym c.admitted.ensures ∙ c.if-not-admitted.false)))
