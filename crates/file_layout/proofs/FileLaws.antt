@@ -30,6 +30,19 @@ module _ (κ : Kind) (g : Shape) where
   unfolding table_start field_length
   table-start = tracer-start κ g g.tracers ∙ ap (λ m. 2 * faces g + m) (mul_left_comm g.tracers 4 (part_length κ g))
 
+  -- where the tracers' sections and the table start, as the code finds it
+  pub record Places (tracers table : ℕ) : Type 0 where
+    pub winds : tracers ≡ 2 * faces g
+    pub sections : table ≡ tracers + 4 * field_length κ g
+    pub whole : file_length κ g ≡ table + 4 * (g.tracers + 1) + 12
+
+  pub places : (tracers table : ℕ) → tracers ≡ section_start κ g 1 → table ≡ table_start κ g → Places tracers table
+  places tracers table ht hb = record {
+    winds = ht ∙ field-start;
+    sections = omega (arith, table-start, field-start);
+    whole = omega (arith, length-is κ g);
+  }
+
   -- every section starts before the table ends
   pub start-le : (i : ℕ) → i < g.tracers + 1 → section_start κ g i ≤ table_start κ g
   unfolding table_start section_start

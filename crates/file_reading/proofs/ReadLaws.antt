@@ -24,33 +24,26 @@ use Rattle.rules.specs.FieldFile.{section_start, table_start, file_length, offse
 use Rattle.file_numbers.specs.Laws.{laws32, laws16}
 use Rattle.file_numbers.proofs.PlaceLaws.{read-at, number-part}
 use Rattle.file_sections.specs.Numbers.{numbers_of, winds_of}
-use Rattle.file_layout.proofs.LayoutLaws.{length-is}
-use Rattle.file_layout.proofs.FileLaws.{field-start, table-start}
+use Rattle.file_layout.proofs.FileLaws.{Places, places}
 
 -- ---- where the stretches stand, in a file of the right length
 module _ (g : Shape) (file : List ℕ) (long : length file ≡ file_length quadratic g) (tracers table : ℕ) (ht : tracers ≡ section_start quadratic g 1) (hb : table ≡ table_start quadratic g) where
-  pub record Places : Type 0 where
-    pub first : tracers ≡ 2 * faces g
-    pub second : table ≡ tracers + 4 * field_length quadratic g
-    pub room : table ≤ length file
+  here : Places quadratic g tracers table
+  here = places quadratic g tracers table ht hb
 
-  pub places : Places
-  places = record {
-    first = ht ∙ field-start quadratic g;
-    second = omega (arith, hb, ht, table-start quadratic g, field-start quadratic g);
-    room = omega (arith, hb, long, length-is quadratic g);
-  }
+  pub room : table ≤ length file
+  room = let p = here in omega (arith, p.whole, long)
 
   -- the numbers of the part before the table, cut at the tracers' start
   pub winds-are : (w : List ℕ) → w ≡ take tracers (take table file) → winds_of w (faces g) ≡ file_wind g file
   unfolding winds_of file_wind
-  winds-are w e = let p = places in
+  winds-are w e = let p = here in
       let q : w ≡ take tracers file = e ∙ take-take tracers table file (omega arith) in
       ap (λ l. winds_of l (faces g)) q ∙ table-cong (faces g) (λ f. number16 (take tracers file) (2 * f)) (λ f. number16 file (2 * f)) (λ f h. number-part laws16 file 0 tracers (2 * f) (omega arith) ∙ ap (number16 file) (zero-add (2 * f)))
 
   pub tracers-are : (r : List ℕ) → r ≡ drop tracers (take table file) → numbers_of r (field_length quadratic g) ≡ file_field quadratic g file
   unfolding numbers_of file_field
-  tracers-are r e = let p = places in
+  tracers-are r e = let p = here in
       let n = table - tracers in
       let q : r ≡ take n (drop tracers file) = e ∙ ap (λ k. drop tracers (take k file)) (omega arith) ∙ drop-take tracers n file in
       ap (λ l. numbers_of l (field_length quadratic g)) q ∙ table-cong (field_length quadratic g) (λ i. number32 (take n (drop tracers file)) (4 * i)) (λ i. number32 file (section_start quadratic g 1 + 4 * i)) (λ i h. number-part laws32 file tracers n (4 * i) (omega arith) ∙ ap (λ k. number32 file (k + 4 * i)) ht)

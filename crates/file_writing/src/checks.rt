@@ -19,17 +19,9 @@ fn tracers_sound(field: &[u32], grid: Grid) -> bool
     requires { field_length quadratic grid.shape ≤ length field.now }
     ensures { result ≡ field_sound quadratic grid.shape field.now }
 {
-    let tracers = grid.shape.tracers;
-    let length = grid.part_length();
-    let mut start = 0;
-    for s in 0..tracers {
-        let end = start + length;
-        if field_search::tracer_total(&field[start..end], grid).is_err() {
-            return false;
-        }
-        start = end;
-    }
-    true
+    field[..grid.field_length()]
+        .chunks_exact(grid.part_length())
+        .all(|part| field_search::tracer_total(part, grid).is_ok())
 }
 
 // The checks of a writing on a grid: 4, 5 and 6.
@@ -45,5 +37,6 @@ pub(crate) fn check(file: &[u8], field: &[u32], wind: &[i16], grid: Grid) -> Res
     if !tracers_sound(field, grid) {
         return Err(Refusal::UnsoundTracer);
     }
+    // `as`: std has no `From` of usize for u64, and `try_from` would want an `unwrap` that never fails.
     Ok(file_layout::file_length(grid) as u64)
 }

@@ -14,14 +14,14 @@ pub loop-i-init : goal.loop-i-init
 unfolding overwrite blocks
 loop-i-init c = search rules
 
-pub overflow_cast-offset : goal.overflow_cast-offset
-overflow_cast-offset c = record { fits = omega (arith, c.section_start-offset.ensures, section-le c.args.grid.shape c.loop-i.i c.args.grid.admitted (omega arith)) }
+pub write_place-requires-clause-small : goal.write_place-requires-clause-small
+write_place-requires-clause-small c = omega (arith, c.section_start.ensures, section-le c.args.grid.shape c.loop-i.i c.args.grid.admitted (omega arith))
 
 pub loop-i-preserved : goal.loop-i-preserved
 loop-i-preserved c =
     let l = c.loop-i in
     let x = section_start quadratic c.args.grid.shape in
-    (omega arith, omega arith, write-at (4 * l.i) _ l.table _ c.write.ensures ∙ next-offset x c.args.table.now l.i c.section_start-offset.result l.table c.section_start-offset.ensures l.invariant.2 (omega (arith, c.requires)))
+    (omega arith, omega arith, write-at (4 * l.i) _ l.table _ c.write_place.ensures ∙ next-offset x c.args.table.now l.i c.section_start.result l.table c.section_start.ensures l.invariant.2 (omega (arith, c.requires)))
 
 pub returns : goal.returns
 returns c =

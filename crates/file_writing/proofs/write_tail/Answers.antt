@@ -8,11 +8,11 @@ use Rattle.file_layout.proofs.LayoutLaws.{length-is, length-le}
 use Rattle.file_writing.proofs.WritingLaws.{tail_written}
 use Rattle.file_writing.proofs.write_tail.Goals as goal
 
-pub overflow_cast-table : goal.overflow_cast-table
-overflow_cast-table c = record { fits = omega (arith, c.table_start-table.ensures, length-le c.args.grid.shape c.args.grid.admitted, length-is quadratic c.args.grid.shape) }
+pub write_place-requires-clause-small : goal.write_place-requires-clause-small
+write_place-requires-clause-small c = omega (arith, c.table_start.ensures, length-le c.args.grid.shape c.args.grid.admitted, length-is quadratic c.args.grid.shape)
 
 pub returns : goal.returns
 returns c =
     let a = c.args in
-    tail_written a.grid.shape a.out.now c.requires c.table_start-table.result _ _ c.write.new.to c.copy_from_slice-2.new.self c.table_start-table.ensures
-    (ap (λ r. r ++ drop 4 a.out.now) c.copy_from_slice.ensures.after) c.write.ensures refl c.copy_from_slice-2.ensures.after
+    tail_written a.grid.shape a.out.now c.requires c.table_start.result _ _ c.write_place.new.to c.copy_from_slice-2.new.self c.table_start.ensures
+    (ap (λ r. r ++ drop 4 a.out.now) c.copy_from_slice.ensures.after) c.write_place.ensures refl c.copy_from_slice-2.ensures.after

@@ -1,64 +1,31 @@
-use mathlib.Core.Path.{◌≡◌, refl, sym, ◌∙◌}
-use native.Mathlib.Nat.{zero-mul, suc-mul}
-use native.Mathlib.Numerals.{add-one}
-use native.Mathlib.Omega.{arith}
-use Prim.Native.Nat.{◌≤◌, ◌+◌, ◌*◌}
-use Rattle.whole.specs.Sum.{all}
-use Rattle.rules.specs.Field.{quadratic, field_length, part, sound}
+-- The field, cut where each tracer's part begins.
+use Rattle.std.proofs.Common.{◌<◌, take, rules, arith}
+use Rattle.rules.specs.Field.{quadratic, sound, part}
 use Rattle.rules.specs.FieldFile.{field_sound}
-use Rattle.whole.proofs.SumLaws.{all_more, all-fails}
-use Rattle.file_writing.proofs.WritingLaws.{ends, lent_length, found-sound, found-unsound}
+use Rattle.field_search.proofs.RunLaws.{chunks-all}
+use Rattle.field_search.proofs.SearchLaws.{is-sound}
+use Rattle.file_layout.proofs.LayoutLaws.{part_above}
+use Rattle.file_writing.proofs.WritingLaws.{parts-many, part-tested}
 use Rattle.file_writing.proofs.checks.tracers_sound.Goals as goal
-use Rattle.file_writing.proofs.checks.tracers_sound.Goals.{In-loop-s}
+use Rattle.file_writing.proofs.checks.tracers_sound.Goals.{After-part_length}
 
-pub loop-s-init : goal.loop-s-init
-unfolding all
-loop-s-init c = (omega arith, sym (zero-mul _), refl)
+-- a part has numbers
+above : (c : After-part_length) → 0 < c.part_length.result
+above c = omega (arith, c.part_length.ensures, part_above c.args.grid.shape c.args.grid.admitted)
 
--- the tracer of a turn ends within the field
-within : (c : In-loop-s)
-    → (c.loop-s.start + c.part_length-length.result ≤ field_length quadratic c.args.grid.shape) × (c.loop-s.start + c.part_length-length.result ≤ 327680)
-within c =
-    let l = c.loop-s in
-    ends c.args.grid.shape c.args.field.now c.requires l.s l.start c.part_length-length.result c.loop-s-test.true l.invariant.1 c.part_length-length.ensures c.args.grid.admitted
+pub chunks_exact-requires : goal.chunks_exact-requires
+chunks_exact-requires c = above (goal.at.chunks_exact-requires c).After-part_length
 
-pub overflow_add-end : goal.overflow_add-end
-overflow_add-end c = record { fits = omega (arith, within (goal.at.overflow_add-end c).In-loop-s) }
-
-pub offset_bounds-field-start : goal.offset_bounds-field-start
-offset_bounds-field-start c = omega (arith, within (goal.at.offset_bounds-field-start c).In-loop-s)
-
-pub slice_bounds-tracer_total-end : goal.slice_bounds-tracer_total-end
-slice_bounds-tracer_total-end c = omega (arith, within (goal.at.slice_bounds-tracer_total-end c).In-loop-s, c.requires)
-
-pub tracer_total-requires : goal.tracer_total-requires
-tracer_total-requires c =
-    let l = c.loop-s in
-    lent_length c.args.grid.shape c.args.field.now c.requires l.s l.start c.part_length-length.result c.loop-s-test.true l.invariant.1 c.part_length-length.ensures
-
-pub returns-then-is_err : goal.returns-then-is_err
-unfolding field_sound
-returns-then-is_err c =
-    let l = c.loop-s in
-    let w = c.part_length-length in
-    let g = c.args.grid.shape in
-    let f = c.args.field.now in
-    sym (all-fails g.tracers (λ k. sound quadratic g (part quadratic g k f)) l.s c.loop-s-test.true
-    (found-unsound g f c.requires l.s l.start w.result c.loop-s-test.true l.invariant.1 w.ensures c.tracer_total.result c.tracer_total.ensures (sym c.is_err.ensures.value ∙ c.if-is_err.true)))
-
-pub loop-s-preserved : goal.loop-s-preserved
-loop-s-preserved c =
-    let l = c.loop-s in
-    let w = c.part_length-length in
-    let g = c.args.grid.shape in
-    let f = c.args.field.now in
-    let next : (l.s + 1) * w.result ≡ l.s * w.result + w.result = rw (add-one l.s) (suc-mul l.s w.result) in (
-      omega arith,
-      omega (arith, l.invariant.1, next),
-      all_more l.s (λ k. sound quadratic g (part quadratic g k f)) l.invariant.2
-          (found-sound g f c.requires l.s l.start w.result c.loop-s-test.true l.invariant.1 w.ensures c.tracer_total.result c.tracer_total.ensures (sym c.is_err.ensures.value ∙ c.if-is_err.false)),
-    )
+pub all-requires-clause-can : goal.all-requires-clause-can
+all-requires-clause-can c = omega (arith, above (goal.at.all-requires-clause-can c).After-part_length, c.chunks_exact.ensures.size)
 
 pub returns : goal.returns
 unfolding field_sound
-returns c = let e : c.loop-s.s ≡ c.args.grid.shape.tracers = omega arith in sym (rw e at c.loop-s.invariant.2)
+returns c =
+    let g = c.args.grid.shape in
+    let f = c.args.field.now in
+    let n = c.field_length in
+    let m = c.part_length in
+    let h = above (goal.at.returns c).After-part_length in
+    chunks-all _ _ m.result g.tracers (take n.result f) (λ k. sound quadratic g (part quadratic g k f)) (λ x b k l q t. part-tested g f n.result m.result k x.now b n.ensures m.ensures l q (search (rules, is-sound)))
+    c.chunks_exact.result c.all.result h (parts-many g f n.result m.result n.ensures m.ensures h c.requires) (λ p q. grind (arith, c.chunks_exact.ensures)) (λ a r q k. search rules) c.all.ensures.runs
