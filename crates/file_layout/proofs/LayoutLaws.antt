@@ -1,13 +1,13 @@
--- Where the sections of a file stand: the sizes of an admitted shape, and that a section ends where the next one starts.
+-- Where the sections of a file stand, and how large an admitted shape's file is.
 use mathlib.Core.Path.{◌≡◌, refl}
 use Prim.Native.Nat.{ℕ, zero, suc, ◌+◌, ◌-◌, ◌*◌, ◌≤◌, ◌<◌}
-use native.Mathlib.Nat.{mul-pos, mul-le-mul, mul-le-mul_right}
+use native.Mathlib.Nat.{mul-pos, mul-le-mul}
 use native.Mathlib.Omega.{arith}
 use borrow.Author.Tests.{ne_eqb}
 use Rattle.rules.specs.declared.Shape.{Shape}
 use Rattle.rules.specs.Field.{Kind, quadratic, faces, part_length, Admitted}
 use Rattle.rules.specs.FieldFile.{section_start, table_start, file_length}
-use Rattle.rules.proofs.ShapeLaws.{elements-le, row_more}
+use Rattle.rules.proofs.ShapeLaws.{elements-le}
 use Rattle.field_layout.proofs.PlaceLaws.{part-is, part-le}
 
 -- ---- any kind of element
@@ -37,12 +37,6 @@ module _ (g : Shape) where
   pub part_above : Admitted g → 0 < part_length quadratic g
   part_above h = omega (arith, part-is g, mul-pos h.nx-above h.ny-above)
 
-  -- a tracer's section ends where the next one starts
-  pub tracer-end : (s : ℕ) → section_start quadratic g (s + 2) ≡ section_start quadratic g (s + 1) + 4 * part_length quadratic g
-  tracer-end s =
-      let e : s + 2 ≡ s + 1 + 1 = omega arith in
-      rw e (omega (arith, tracer-start quadratic g (s + 1), tracer-start quadratic g s, row_more (4 * part_length quadratic g) s))
-
   -- k tracers take at most this much
   pub tracers-le : (k : ℕ) → Admitted g → k ≤ 8 → k * (4 * part_length quadratic g) ≤ 1310720
   tracers-le k h l = let w : 4 * part_length quadratic g ≤ 163840 = omega (arith, part-le g h) in mul-le-mul l w
@@ -54,18 +48,3 @@ module _ (g : Shape) where
 
   pub length-le : Admitted g → file_length quadratic g ≤ 1327152
   length-le h = omega (arith, length-is quadratic g, table_is quadratic g, section-le (g.tracers + 1) h (omega arith), h.tracers-small)
-
-  -- a section ends within the file
-  pub start-in : (i : ℕ) → i ≤ g.tracers → section_start quadratic g (i + 1) ≤ file_length quadratic g
-  start-in i h = omega (arith, length-is quadratic g, table_is quadratic g, tracer-start quadratic g i, tracer-start quadratic g g.tracers, mul-le-mul_right (4 * part_length quadratic g) h)
-
-  -- the wind section, from start to end: two bytes for each face, and within the file
-  pub wind-span : (start end : ℕ) → start ≡ section_start quadratic g 0 → end ≡ section_start quadratic g 1 → (start ≡ 0) × (end ≡ 2 * faces g) × (end ≤ file_length quadratic g)
-  wind-span start end s e = (omega (arith, s, wind-start quadratic g), omega (arith, e, tracer-start quadratic g 0), omega (arith, e, start-in 0 (omega arith)))
-
-  -- a tracer's section: four bytes for each number, and within the file
-  pub tracer-span : (s start end : ℕ) → s < g.tracers → start ≡ section_start quadratic g (s + 1) → end ≡ section_start quadratic g (s + 2)
-      → (end ≡ start + 4 * part_length quadratic g) × (end ≤ file_length quadratic g)
-  tracer-span s start end h hs he =
-      let next : s + 2 ≡ s + 1 + 1 = omega arith in
-      (omega (arith, hs, he, tracer-end s), omega (arith, rw next at he, start-in (s + 1) (omega arith)))
