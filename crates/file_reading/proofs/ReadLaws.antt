@@ -2,20 +2,20 @@
 use mathlib.Core.Path.{◌≡◌, refl, sym, ap, ◌∙◌}
 use mathlib.Core.Bool.{Bool, false}
 use mathlib.Core.List.{List, ◌++◌}
-use Prim.Native.Nat.{ℕ, ◌+◌, ◌-◌, ◌*◌, ◌/◌, ◌≤◌, ◌<◌}
-use native.Mathlib.Nat.{zero-add, mul_left_comm, mul-div_cancel}
+use Prim.Native.Nat.{ℕ, suc, ◌+◌, ◌-◌, ◌*◌, ◌/◌, ◌≤◌, ◌<◌}
+use native.Mathlib.Nat.{zero-add, zero-mul, suc-mul, mul_left_comm, mul-div_cancel, mul-le-mul_right, lt_of_mul-lt-mul_right}
 use native.Mathlib.Omega.{arith}
 use borrow.Author.Tests.{eq-eqb, ne_eqb}
 use lib.Dec.{eqb}
-use lib.ListN.{length, take, drop}
-use Rattle.std.proofs.lemmas.List.{take-take, drop-take}
+use lib.ListN.{length, take, drop, length-append, length-drop}
+use Rattle.std.proofs.lemmas.List.{take-take, drop-take, take_at, drop_at, drop-drop}
 use lib.Seq.{length-take-le}
 use Rattle.whole.specs.Sum.{all}
 use Rattle.whole.specs.Table.{table, overwrite}
 use Rattle.whole.proofs.TableLaws.{get_d-table, table-cong}
 use Rattle.whole.proofs.SumLaws.{all-cong}
-use Rattle.whole.proofs.OverwriteLaws.{part_room, filled-front}
-use Rattle.whole.proofs.ListParts.{table-part}
+use Rattle.whole.proofs.OverwriteLaws.{part-size, part_room, filled-front}
+use Rattle.whole.proofs.ListParts.{table-part, fill-part}
 use Rattle.rules.specs.declared.Shape.{Shape}
 use Rattle.rules.specs.Field.{quadratic, faces, part_length, field_length, part, sound, wind_in_range}
 use Rattle.rules.specs.Calls.{wind_sound}
@@ -70,6 +70,59 @@ module _ (g : Shape) (s : List ℕ) (n : ℕ) (e : n ≡ 4 * part_length quadrat
       let same : numbers_of x w ≡ table w (λ i. number32 s (4 * (k * w + i))) = ap (λ l. numbers_of l w) q ∙ table-cong w (λ i. number32 (take n (drop (k * n) s)) (4 * i)) (λ i. number32 s (4 * (k * w + i)))
       (λ i l. number-part laws32 s (k * n) n (4 * i) (omega arith) ∙ ap (number32 s) (omega (arith, ap (λ m. k * m) e, mul_left_comm k 4 w))) in
       t ∙ ap (sound quadratic g) (same ∙ sym (table-part (k * w) w (g.tracers * w) (λ i. number32 s (4 * i)) (part_room w h)))
+
+-- ---- the tracers, read one after the other: what a turn keeps, and where it ends
+module _ (g : Shape) (bytes field₀ : List ℕ) (n : ℕ) where
+  abbrev number_at : ℕ → ℕ
+  number_at i = number32 bytes (4 * i)
+
+  -- the sections that are left, the place of the next part, and the field
+  pub record TracersRead (left : List ℕ) (to : ℕ) (field : List ℕ) : Type 0 where
+    pub count : ℕ
+    pub place : to ≡ count * n
+    pub rest : left ≡ drop (4 * to) bytes
+    pub within : to ≤ field_length quadratic g
+    pub numbers : field ≡ table to number_at ++ drop to field₀
+
+  pub none-read : TracersRead bytes 0 field₀
+  unfolding table
+  none-read = record { count = 0; place = sym (zero-mul n); rest = refl; within = omega arith; numbers = refl }
+
+  module _ (long : length bytes ≡ 4 * field_length quadratic g) {left : List ℕ} {to : ℕ} {field : List ℕ} (r : TracersRead left to field) where
+    left-long : length left + 4 * to ≡ 4 * field_length quadratic g
+    left-long = omega (arith, ap length r.rest, length-drop (4 * to) bytes, r.within)
+
+    -- there is room for the part of the next section
+    pub next-room : (x left' : List ℕ) → left ≡ x ++ left' → length x ≡ 4 * n → to + n ≤ field_length quadratic g
+    next-room x left' e h = omega (arith, left-long, ap length e, length-append x left')
+
+    pub next-read : (m : ℕ) (x left' ys : List ℕ) → m ≡ n → field_length quadratic g ≤ length field → left ≡ x ++ left' → length x ≡ 4 * n → ys ≡ numbers_of x (length (take m (drop to field)))
+        → TracersRead left' (to + n) (take to field ++ (ys ++ drop m (drop to field)))
+    unfolding numbers_of
+    next-read m x left' ys em room e h ey =
+        let q : x ≡ take (4 * n) (drop (4 * to) bytes) = sym (take_at x left' (4 * n) h) ∙ ap (take (4 * n)) (sym e ∙ r.rest) in
+        let size : length (take m (drop to field)) ≡ n = part-size n to m field em (omega (arith, next-room x left' e h, room)) in
+        let own : numbers_of x n ≡ table n (λ i. number_at (to + i)) =
+        ap (λ l. numbers_of l n) q ∙ table-cong n (λ i. number32 (take (4 * n) (drop (4 * to) bytes)) (4 * i)) (λ i. number_at (to + i))
+        (λ i l. number-part laws32 bytes (4 * to) (4 * n) (4 * i) (omega arith) ∙ ap (number32 bytes) (omega arith)) in
+        record {
+          count = suc r.count;
+          place = omega (arith, r.place, suc-mul r.count n);
+          rest = sym (drop_at x left' (4 * n) h) ∙ ap (drop (4 * n)) (sym e ∙ r.rest) ∙ drop-drop (4 * n) (4 * to) bytes ∙ ap (λ k. drop k bytes) (omega arith);
+          within = next-room x left' e h;
+          numbers = fill-part to n m number_at ys field₀ field em r.numbers (ey ∙ ap (numbers_of x) size ∙ own);
+        }
+
+  -- no section is left
+  pub all-read : {left : List ℕ} {to : ℕ} {field : List ℕ} → n ≡ part_length quadratic g → length bytes ≡ 4 * field_length quadratic g → TracersRead left to field → length left < 4 * n → field ≡ overwrite 0 (numbers_of bytes (field_length quadratic g)) field₀
+  unfolding numbers_of field_length
+  all-read {to = to} en long r h =
+      let w : g.tracers * part_length quadratic g ≡ g.tracers * n = ap (λ m. g.tracers * m) (sym en) in
+      let next : suc r.count * n ≡ r.count * n + n = suc-mul r.count n in
+      let many : g.tracers < suc r.count = lt_of_mul-lt-mul_right n (omega (arith, left-long long r, r.place)) in
+      let le : g.tracers * n ≤ r.count * n = mul-le-mul_right n (omega arith) in
+      let all : to ≡ g.tracers * part_length quadratic g = omega (arith, r.within, r.place) in
+      rw all at (r.numbers ∙ filled-front to number_at field₀)
 
 -- ---- numbers that are read into the front of a buffer
 pub front-filled : {A : Type 0} (k n : ℕ) (f : ℕ → A) (t p l : List A) → k ≡ n → n ≤ length l → p ≡ table (length (take k l)) f → table n f ≡ t → p ++ drop k l ≡ overwrite 0 t l

@@ -2,7 +2,8 @@
 // A call has no `requires`: what document 01 doesn't admit is refused by its number, and a refused call writes nothing.
 #![tactic(auto)]
 
-ghost use Rattle.std.specs.Prelude.{◌≡◌, ◌*◌, length};
+ghost use Rattle.std.specs.Prelude.{◌≡◌, ◌*◌, ◌≤◌, length};
+ghost use Rattle.whole.specs.Table.{overwrite};
 ghost use Rattle.rules.specs.Field.{quadratic, faces, field_length};
 ghost use Rattle.rules.specs.FieldFile.{file_length, file_wind, file_field, ReadGives};
 ghost use Rattle.rules.specs.Answers.{answers};
@@ -27,15 +28,33 @@ fn sections(file: &[u8], grid: Grid) -> (&[u8], &[u8])
     file[..table].split_at(tracers)
 }
 
+// Reads every tracer's section into its part of the field: each section as its own part of the file, which is document 01's form. The part
+// by its place: of the parts that `chunks_exact_mut` lends, a proof knows only how many they are.
+fn read_tracers(sections: &[u8], field: &mut [u32], grid: Grid)
+    requires sections_len { length sections.now ≡ 4 * field_length quadratic grid.shape }
+    requires shape_in_bounds { field_length quadratic grid.shape ≤ length field.old }
+    ensures { field.new ≡ overwrite 0 (numbers_of sections.now (field_length quadratic grid.shape)) field.old }
+{
+    let n = grid.part_length();
+    let mut to = 0;
+    for section in sections.chunks_exact(4 * n) {
+        file_sections::read_all(section, &mut field[to..to + n]);
+        to += n;
+    }
+}
+
 // Reads a file into field and wind, and answers its shape.
 pub fn read(file: &[u8], field: &mut [u32], wind: &mut [i16]) -> Result<Shape, Refusal>
     ensures { ReadGives quadratic file.now field.old wind.old (answers result) field.new wind.new }
 {
-    let shape = tail::read_tail(file)?;
+    let tail = tail::read_tail(file);
+    let Ok(shape) = tail else {
+        return tail;
+    };
     let grid = Grid { shape };
     checks::check(file, field.len(), wind.len(), grid)?;
     let (winds, tracers) = sections(file, grid);
     file_sections::read_all(winds, &mut wind[..grid.faces()]);
-    file_sections::read_all(tracers, &mut field[..grid.field_length()]);
+    read_tracers(tracers, field, grid);
     Ok(shape)
 }
