@@ -68,7 +68,7 @@ pub fn search<N: Numbers>(numbers: &N, grid: Grid) -> Result<u64, Refusal>
 {
     let Shape { nx, ny, .. } = grid.shape;
     let mut sum = 0;
-    // A flag beside the sum: the loops are left by their labels, and a `for` that is left so has no value.
+    // Labelled loops by rows, elements and numbers are document 01's form. A `for` that is left by a label has no value: so a flag, beside the sum.
     let mut sound = true;
     let mut start = 0;
     'rows: for j in 0..ny {

@@ -2,11 +2,10 @@
 use mathlib.Core.Path.{◌≡◌, subst}
 use mathlib.Core.Bool.{Bool, true, false, ◌&&◌}
 use mathlib.Core.List.{List}
-use Prim.Native.Nat.{ℕ, ◌≤◌}
-use lib.Dec.{leb, leb→le}
+use Prim.Native.Nat.{ℕ}
+use lib.Dec.{leb}
 use lib.IntN.{ℤ}
 use lib.ListN.{length}
-use Rattle.whole.proofs.Cases.{both_yes}
 use Rattle.rules.specs.declared.Shape.{Shape}
 use Rattle.rules.specs.Answers.{Answer, accepted, refused, answer}
 use Rattle.rules.specs.Field.{quadratic, admitted, faces, field_length}
@@ -17,17 +16,6 @@ module _ (g : Shape) (field : List ℕ) (wind : List ℤ) (file : List ℕ) wher
   -- the buffers are long enough
   abbrev pub enough : Bool
   enough = leb (field_length quadratic g) (length field) && (leb (faces g) (length wind) && leb (file_length quadratic g) (length file))
-
-  pub record Rooms : Type 0 where
-    pub field_room : field_length quadratic g ≤ length field
-    pub wind-room : faces g ≤ length wind
-    pub file-room : file_length quadratic g ≤ length file
-
-  pub rooms : enough ≡ true → Rooms
-  rooms e =
-      let a = both_yes (leb (field_length quadratic g) (length field)) (leb (faces g) (length wind) && leb (file_length quadratic g) (length file)) (rw e tt) in
-      let b = both_yes (leb (faces g) (length wind)) (leb (file_length quadratic g) (length file)) a.1 in
-      record { field_room = leb→le _ _ a.0; wind-room = leb→le _ _ b.0; file-room = leb→le _ _ b.1 }
 
   pub write-2 : admitted g ≡ false → write_reply quadratic g field wind file ≡ refused 2
   unfolding write_reply answer

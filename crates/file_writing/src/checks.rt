@@ -7,7 +7,8 @@ ghost use Rattle.rules.specs.FieldFile.{file_length, field_sound, write_reply};
 use field_layout::Grid;
 use rules::Refusal;
 
-// Whether buffers of these lengths are long enough.
+// Whether buffers of these lengths are long enough. A step asks for another list, of which this has two lengths: one function for both would take
+// a list and be no plainer.
 fn lent_enough(field: usize, wind: usize, file: usize, grid: Grid) -> bool
     ensures { result ≡ (leb (field_length quadratic grid.shape) field && (leb (faces grid.shape) wind && leb (file_length quadratic grid.shape) file)) }
 {

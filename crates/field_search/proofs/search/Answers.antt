@@ -6,7 +6,7 @@ use lib.ListN.{length}
 use Rattle.rules.specs.Answers.{accepted, refused}
 use Rattle.rules.specs.Sizes.{most_elements}
 use Rattle.rules.proofs.GridLaws.{element-lt}
-use Rattle.rules.proofs.ShapeLaws.{row_more, all-rows}
+use Rattle.rules.proofs.ShapeLaws.{all-rows}
 use Rattle.field_elements.proofs.ElementLaws.{weighs-small}
 use Rattle.field_layout.proofs.PlaceLaws.{elements-within}
 use Rattle.field_search.specs.Search.{searched}
@@ -26,9 +26,6 @@ room g c =
 pub rows-init : goal.rows-init
 rows-init g c = (search-starts (g.N.Numbers.numbers c.args.numbers.now) c.args.grid.shape.nx, omega arith)
 
-pub elements-init : goal.elements-init
-elements-init g c = (at-element (omega arith) c.rows.invariant.0, omega arith)
-
 pub number-requires : goal.number-requires
 number-requires g c = let r = room g (goal.at.number-requires g c).In-elements in omega arith
 
@@ -42,10 +39,6 @@ numbers-preserved g c =
 
 pub elements-preserved : goal.elements-preserved
 elements-preserved g c = (at-element (omega arith) (element-ends c.elements.invariant.0 c.numbers.invariant (omega arith)), omega arith)
-
-pub rows-preserved : goal.rows-preserved
-rows-preserved g c =
-    (at-element (omega (arith, row_more c.args.grid.shape.nx c.rows.j)) c.elements.invariant.0, omega arith)
 
 -- what the two ways out of the search say: no row is left, or a number is a break
 outcome : (g : Over) (c : Left-rows g)

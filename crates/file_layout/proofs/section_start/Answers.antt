@@ -11,9 +11,6 @@ use Rattle.file_layout.proofs.section_start.Goals.{After-part_length}
 pub returns-then-i-eq0 : goal.returns-then-i-eq0
 returns-then-i-eq0 c = rw c.if-i-eq0.true (sym (wind-start quadratic c.args.grid.shape))
 
-pub overflow_mul-result : goal.overflow_mul-result
-overflow_mul-result c = record { fits = omega (arith, c.faces.ensures, elements-le c.args.grid.shape c.args.grid.admitted) }
-
 pub overflow_mul-result-2 : goal.overflow_mul-result-2
 overflow_mul-result-2 c = record { fits = omega (arith, c.part_length.ensures, part-le c.args.grid.shape c.args.grid.admitted) }
 

@@ -5,7 +5,7 @@ use Rattle.rules.specs.Answers.{accepted}
 use Rattle.rules.specs.Field.{admitted}
 use Rattle.rules.specs.Calls.{wind_sound}
 use Rattle.field_layout.proofs.PlaceLaws.{is-admitted}
-use Rattle.file_writing.proofs.WriteChecks.{enough, rooms, write-4, write-5, write-6, write-passed}
+use Rattle.file_writing.proofs.WriteChecks.{enough, write-4, write-5, write-6, write-passed}
 use Rattle.file_writing.proofs.checks.check.Goals as goal
 use Rattle.file_writing.proofs.checks.check.Goals.{Else-not-lent_enough, Else-not-winds_sound, Start}
 
@@ -21,9 +21,6 @@ returns-then-not-lent_enough c =
 enough-is : (c : Else-not-lent_enough) → enough c.args.grid.shape c.args.field.now c.args.wind.now c.args.file.now ≡ true
 enough-is c = sym c.lent_enough.ensures ∙ c.if-not-lent_enough.false
 
-pub winds_sound-requires : goal.winds_sound-requires
-winds_sound-requires c = let a = c.args in (rooms a.grid.shape a.field.now a.wind.now a.file.now (enough-is (goal.at.winds_sound-requires c).Else-not-lent_enough)).wind-room
-
 pub returns-then-not-winds_sound : goal.returns-then-not-winds_sound
 returns-then-not-winds_sound c =
     let a = c.args in
@@ -31,9 +28,6 @@ returns-then-not-winds_sound c =
 
 winds-are : (c : Else-not-winds_sound) → wind_sound c.args.grid.shape c.args.wind.now ≡ true
 winds-are c = sym c.winds_sound.ensures ∙ c.if-not-winds_sound.false
-
-pub tracers_sound-requires : goal.tracers_sound-requires
-tracers_sound-requires c = let a = c.args in (rooms a.grid.shape a.field.now a.wind.now a.file.now (enough-is (goal.at.tracers_sound-requires c).Else-not-lent_enough)).field_room
 
 pub returns-then-not-tracers_sound : goal.returns-then-not-tracers_sound
 returns-then-not-tracers_sound c =
