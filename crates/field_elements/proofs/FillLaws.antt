@@ -1,13 +1,15 @@
 -- Loops that fill a list from the front, by entries or by blocks: what holds at every turn, as a record, and what it says in the end.
 use mathlib.Core.Path.{◌≡◌, refl, sym, ap, ◌∙◌}
-use mathlib.Core.List.{List, ◌++◌}
-use Prim.Native.Nat.{ℕ, ◌+◌, ◌*◌, ◌≤◌, ◌<◌}
+use mathlib.Core.List.{List, ◌++◌, append-nil}
+use Prim.Native.Nat.{ℕ, ◌+◌, ◌-◌, ◌*◌, ◌≤◌, ◌<◌}
 use native.Mathlib.Nat.{zero-mul, suc-mul}
 use native.Mathlib.Numerals.{add-one}
 use native.Mathlib.Omega.{arith}
-use lib.ListN.{length, set, take, drop, length-set}
+use lib.ListN.{length, get_or, set, take, drop, length-set, drop_of_length-le}
+use lib.Seq.{drop_at}
+use Rattle.std.proofs.lemmas.List.{get_or-drop, get_or-append_right}
 use Rattle.whole.specs.Table.{table, blocks, overwrite}
-use Rattle.whole.proofs.TableLaws.{length-blocks, fill-next, fill-block, length-filled}
+use Rattle.whole.proofs.TableLaws.{length-table, length-blocks, fill-next, fill-block, length-filled}
 use Rattle.whole.proofs.OverwriteLaws.{front-is, part_room}
 
 -- the first k of n entries are f's, the others those of l
@@ -24,6 +26,11 @@ module _ {A : Type 0} {f : ℕ → A} {l : List A} {n : ℕ} where
 
   pub filled_next : {k : ℕ} {p : List A} {x : A} → Filled f l n k p → k < n → x ≡ f k → Filled f l n (k + 1) (set p k x)
   filled_next {k} {p} {x} h q e = record { room = h.room; within = omega arith; long = rw length-set h.long; same = fill-next k f l p x h.same (omega arith) e }
+
+  -- the entries that are left
+  pub filled-rest : {k : ℕ} {p : List A} → Filled f l n k p → (i : ℕ) (d : A) → k ≤ i → get_or p i d ≡ get_or l i d
+  filled-rest {k} h i d le = ap (λ x. get_or x i d) h.same ∙ get_or-append_right (table k f) (drop k l) k i d (length-table k f) le ∙ get_or-drop k l (i - k) d
+      ∙ (let e : k + (i - k) ≡ i = omega arith in ap (λ j. get_or l j d) e)
 
 -- the first k of n blocks of width w are f's, the rest is that of l
 pub record BlocksFilled {A : Type 0} (w : ℕ) (f : ℕ → List A) (l : List A) (n k : ℕ) (p : List A) : Type 0 where
@@ -50,9 +57,16 @@ module _ {A : Type 0} {w : ℕ} {f : ℕ → List A} {l : List A} {n : ℕ} wher
   unfolding overwrite
   blocks-over {k} each h q e b = blocks-next each h q e (ap length b ∙ each k) b
 
+  -- what is left
+  pub blocks-rest : {k : ℕ} {p : List A} → ((e : ℕ) → length (f e) ≡ w) → BlocksFilled w f l n k p → drop (k * w) p ≡ drop (k * w) l
+  blocks-rest {k} each h = ap (drop (k * w)) h.same ∙ drop_at (blocks k f) (drop (k * w) l) (k * w) (length-blocks w f each k)
+
   module _ {k : ℕ} {p : List A} (h : BlocksFilled w f l n k p) (end : n ≤ k) where
     all_blocks : p ≡ blocks n f ++ drop (n * w) l
     all_blocks = let e : k ≡ n = omega arith in rw e at h.same
 
     pub blocks-all : ((e : ℕ) → length (f e) ≡ w) → p ≡ overwrite 0 (blocks n f) l
     blocks-all each = all_blocks ∙ ap (λ m. blocks n f ++ drop m l) (sym (length-blocks w f each n)) ∙ sym (front-is (blocks n f) l)
+
+    pub blocks-whole : length l ≡ n * w → p ≡ blocks n f
+    blocks-whole e = all_blocks ∙ ap (λ y. blocks n f ++ y) (drop_of_length-le l {i = n * w} (omega arith)) ∙ append-nil (blocks n f)

@@ -10,6 +10,7 @@ use lib.ListN.{length, take, drop}
 use lib.Seq.{drop_at}
 use Rattle.whole.specs.Table.{overwrite}
 use Rattle.whole.proofs.Cases.{both_yes}
+use Rattle.whole.proofs.OverwriteLaws.{front-is}
 use Rattle.whole.proofs.SumLaws.{all-at}
 use Rattle.rules.specs.declared.Shape.{Shape}
 use Rattle.rules.specs.Answers.{Answer, accepted, refused, Check, check, answer, plain}
@@ -138,6 +139,10 @@ work-refused g a n old e = subst (λ x. WorkAfter g x old old) (sym e) refl
 -- the numbers that are needed were lent and came back as x; the rest is the old surplus
 pub work-accepted : (g : Shape) (a : Answer Reply) (r : Reply) (old x new : List ℤ) → a ≡ accepted r → new ≡ x ++ drop (work_needed g) old → length x ≡ work_needed g → length new ≡ length old → WorkAfter g a old new
 work-accepted g a r old x new e q l h = subst (λ y. WorkAfter g y old new) (sym e) (h, ap (drop (work_needed g)) q ∙ drop_at x (drop (work_needed g) old) (work_needed g) l)
+
+-- the numbers of the report that were lent and written, before the rest
+pub report-back : (n : ℕ) {x : List ℤ} (new old : List ℤ) → n ≡ length new → x ≡ new → x ++ drop n old ≡ overwrite 0 new old
+report-back n new old en ex = (λ i. ex i ++ drop (en i) old) ∙ sym (front-is new old)
 
 -- the part that was lent and written, back in its place
 pub part-back : (g : Shape) (s at k : ℕ) (x new f : List ℕ) → at ≡ s * part_length quadratic g → k ≡ elements_length quadratic g → x ≡ new → length new ≡ part_length quadratic g

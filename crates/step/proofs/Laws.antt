@@ -1,19 +1,19 @@
--- The target's sum as the machine makes it, exact since each of its numbers is within the limit; an element's new numbers, from what is lent.
-use mathlib.Core.Path.{◌≡◌, sym, ap, subst, ◌∙◌}
+-- The target's sum, exact since each of its numbers is within the limit; an element's new numbers, from what is lent.
+use mathlib.Core.Path.{◌≡◌, sym, subst, ◌∙◌}
 use mathlib.Core.List.{List}
 use Prim.Native.Nat.{ℕ, ◌+◌, ◌*◌, ◌≤◌, ◌<◌}
 use native.Mathlib.Omega.{arith}
-use lib.ListN.{length, take, drop}
-use lib.IntN.{ℤ, pos, ◌+ℤ◌, ◌-ℤ◌}
-use mir.Syntax.{w64, w32}
+use lib.ListN.{length, drop, length-drop}
+use Rattle.std.proofs.lemmas.List.{get_or-drop}
+use lib.IntN.{ℤ, pos}
+use mir.Syntax.{w32}
 use mir.Val.{to_z, of_z}
-use Rattle.whole.specs.Bound.{Within}
+use Rattle.whole.proofs.Sizes.{back_is}
+use Rattle.whole.specs.Bound.{Within, Are, AllWithin}
 use Rattle.whole.specs.Parts.{positive}
 use Rattle.whole.specs.Table.{at}
 use Rattle.whole.proofs.WholeLaws.{positive-le}
 use Rattle.whole.proofs.BoundLaws.{within-le, within-add, within-sub}
-use Rattle.whole.proofs.Sizes.{exacts, exact}
-use Rattle.whole.proofs.OverwriteLaws.{part_at, part-size}
 use Rattle.rules.specs.declared.Shape.{Shape}
 use Rattle.rules.specs.Field.{quadratic, elements, element_length, limit}
 use Rattle.rules.specs.Limiter.{closed}
@@ -22,50 +22,38 @@ use Rattle.rules.specs.Correction.{target}
 use Rattle.rules.proofs.LimiterLaws.{closed-cong}
 use Rattle.rules.proofs.StepLaws.{length-closed}
 use Rattle.limiter.specs.Sizes.{Tentative}
-use Rattle.step_layout.specs.Sections.{stage_start}
-use Rattle.step.specs.Finish.{Finished, mass_of, tentative_of, new_element}
+use Rattle.step_upwind.specs.Upwind.{stage_length, as_stage}
+use Rattle.step.specs.Finish.{Balance, mass_of, new_element}
 
--- a number of work, and one of the report, as they are read
-abbrev pub B : ℤ → ℤ
-B x = to_z w64 (of_z w64 x)
+-- a limited flux as it is read from the report
+pub read : (report : List ℤ) (i : ℕ) {r : ℤ} → AllWithin limit report → r ≡ to_z w32 (of_z w32 (at report i)) → Are limit r (at report i)
+read report i h e = record { same = e ∙ back_is w32 (at report i) (h.all i) tt; bound = h.all i }
 
-abbrev pub C : ℤ → ℤ
-C x = to_z w64 (of_z w64 (to_z w32 (of_z w32 x)))
+-- a target of masses and limited fluxes
+pub target-within : (g : Shape) (masses report : List ℤ) (e : ℕ) → e < elements g → Balance g masses report → positive (target g (mass_of masses) (at report) e) ≤ target_size
+unfolding target
+target-within g masses report e l h = omega (arith, positive-le (target g (mass_of masses) (at report) e), small.within)
+  where
+    f : (i : ℕ) → Within limit (at report i)
+    f = h.flux-sizes.all
 
--- an element's mass, and its four limited fluxes
-pub record Balanced (m e w n s : ℤ) : Type 0 where
-  pub mass : Within limit m
-  pub east : Within limit e
-  pub west : Within limit w
-  pub north : Within limit n
-  pub south : Within limit s
+    m : Within limit (pos (mass_of masses e))
+    m = record { within = omega (arith, positive-le (at masses e), (h.mass-sizes e l).small.within) }
 
-module _ {m e w n s : ℤ} (h : Balanced m e w n s) where
-  pub read-sum : B (B (B (B (B m -ℤ C e) +ℤ C w) -ℤ C n) +ℤ C s) ≡ m -ℤ e +ℤ w -ℤ n +ℤ s
-  read-sum = exact (search exacts depth 20) tt
-
-  pub sum-within : Within target_size (m -ℤ e +ℤ w -ℤ n +ℤ s)
-  sum-within = within-le (within-add (within-sub (within-add (within-sub h.mass h.east) h.west) h.north) h.south) (omega arith)
-
-pub positive-small : {n : ℕ} (z : ℤ) → Within n z → positive z ≤ n
-positive-small z h = omega (arith, positive-le z, h.within)
+    small : Within target_size (target g (mass_of masses) (at report) e)
+    small = within-le (within-add (within-sub (within-add (within-sub m (f _)) (f _)) (f _)) (f _)) (omega arith)
 
 -- ---- a new element
-pub new-length : (g : Shape) (w r : List ℤ) (e : ℕ) → length (new_element g w r e) ≡ 10
+pub new-length : (g : Shape) (psi masses report : List ℤ) (e : ℕ) → length (new_element g psi masses report e) ≡ 10
 unfolding new_element element_length quadratic
-new-length g w r e = length-closed quadratic (tentative_of g w e) (positive (target g (mass_of g w) (at r) e))
+new-length g psi masses report e = length-closed quadratic (as_stage psi e) (positive (target g (mass_of masses) (at report) e))
 
--- the tentative values of element e, as they are lent to the closing
-pub lent-values : (g : Shape) (w r : List ℤ) (e psi k : ℕ) → Finished g w r → e < elements g → psi ≡ stage_start g 3 + e * 9 → k ≡ 9
-    → Tentative (take k (drop psi w)) × (closed quadratic (at (take k (drop psi w))) (positive (target g (mass_of g w) (at r) e)) ≡ new_element g w r e)
-unfolding new_element quadratic
-lent-values g w r e psi k f le ep ek = (
-  record {
-    nine = omega (arith, part-size 9 psi k w ek (omega (arith, f.long)));
-    small = λ i l. subst (Within tentative_size) (sym (value i l)) (f.values (e * 9 + i) (omega arith));
-  },
-  closed-cong quadratic (at (take k (drop psi w))) (tentative_of g w e) _ value,
-)
-  where
-    value : (i : ℕ) → i < 9 → at (take k (drop psi w)) i ≡ tentative_of g w e i
-    value i l = part_at 9 psi k w i (pos 0) ek l ∙ ap (at w) (omega arith)
+-- the tentative values of element e, as they are lent to the closing, and what it makes of them
+pub tentative-lent : (g : Shape) (psi : List ℤ) (e : ℕ) → length psi ≡ stage_length g → AllWithin tentative_size psi → e < elements g → Tentative (drop (e * 9) psi)
+tentative-lent g psi e long small l = record {
+  nine = omega (arith, length-drop (e * 9) psi);
+  small = λ k lk. subst (Within tentative_size) (sym (get_or-drop (e * 9) psi k (pos 0))) (small.all (e * 9 + k));
+}
+
+pub closed-lent : (psi : List ℤ) (e t : ℕ) → closed quadratic (at (drop (e * 9) psi)) t ≡ closed quadratic (as_stage psi e) t
+closed-lent psi e t = closed-cong quadratic (at (drop (e * 9) psi)) (as_stage psi e) t (λ k lk. get_or-drop (e * 9) psi k (pos 0))

@@ -63,11 +63,12 @@ pub fn step(
     check(field, wind, report.len(), work.len(), grid, tracer)?;
     let start = grid.tracer_start(tracer);
     let end = start + grid.elements_length();
+    let faces = grid.faces();
     let needed = work_needed(grid);
     tracer::step(
         &mut field[start..end],
         wind,
-        report,
+        &mut report[..faces],
         &mut work[..needed],
         grid,
     );

@@ -1,72 +1,80 @@
-// The step of one tracer, on its part of the field. Leaves: the shape is admitted, buffers are long enough, winds and the tracer's
-// total are in their ranges.
+// The step of one tracer, on its part of the field. Leaves: what is lent has its length, winds and the tracer's total are in their ranges.
 ghost use Rattle.std.specs.Prelude.{◌≡◌, ◌≤◌, length};
+ghost use Rattle.whole.specs.Bound.{AllWithin};
 ghost use Rattle.whole.specs.Parts.{positive};
-ghost use Rattle.whole.specs.Table.{blocks, overwrite, at};
+ghost use Rattle.whole.specs.Table.{blocks, at};
 ghost use Rattle.rules.specs.Field.{quadratic, elements, elements_length, faces, work_needed, total, limit};
 ghost use Rattle.rules.specs.Correction.{target};
 ghost use Rattle.rules.specs.Step.{tracer_step};
 ghost use Rattle.rules.specs.Calls.{wind_at};
-ghost use Rattle.rules.specs.Sizes.{target_size};
-ghost use Rattle.step_upwind.specs.Upwind.{WindsInRange};
-ghost use Rattle.step.specs.Finish.{Finished, mass_of, new_element};
+ghost use Rattle.rules.specs.Sizes.{target_size, tentative_size};
+ghost use Rattle.step_upwind.specs.Upwind.{stage_length, WindsInRange};
+ghost use Rattle.step.specs.Finish.{Balance, mass_of, new_element};
 
 use field_layout::Grid;
 use rules::element::{NODES, NUMBERS};
 use step_grid::Element;
-use step_layout::TENTATIVE;
 
 // An element's target: its mass, less what leaves by its east and north face, and what comes by its west and south face.
-fn target(work: &[i64], report: &[i32], element: Element) -> u64
-    requires { Finished element.grid.shape work.now report.now }
-    ensures { (result ≡ positive (target element.grid.shape (mass_of element.grid.shape work.now) (at report.now) element.index)) × (result ≤ target_size) }
+fn target(masses: &[i64], report: &[i32], element: Element) -> u64
+    requires { Balance element.grid.shape masses.now report.now }
+    ensures value { result ≡ positive (target element.grid.shape (mass_of masses.now) (at report.now) element.index) }
+    ensures bound { result ≤ target_size }
 {
-    let n = element.grid.elements();
-    let e = element.index;
-    let masses = step_layout::masses_start(element.grid);
-    let west = element.west();
-    let south = n + element.south();
-    let north = n + e;
-    let left = work[masses + e] - (report[e] as i64) + (report[west] as i64);
-    let all = left - (report[north] as i64) + (report[south] as i64);
-    all as u64
+    let [west, east, south, north] = element.sides();
+    let left = masses[element.index] - i64::from(report[east]) + i64::from(report[west]);
+    let all = left - i64::from(report[north]) + i64::from(report[south]);
+    all as u64 // std has no `From` for it; a target is never below 0
 }
 
 // Every element is closed with its tentative values and its target.
-fn finish(part: &mut [u32], work: &[i64], report: &[i32], grid: Grid)
+fn finish(part: &mut [u32], psi: &[i64], masses: &[i64], report: &[i32], grid: Grid)
     requires part_len { length part.old ≡ elements_length quadratic grid.shape }
-    requires finished { Finished grid.shape work.now report.now }
-    ensures { part.new ≡ blocks (elements grid.shape) (new_element grid.shape work.now report.now) }
+    requires psi_len { length psi.now ≡ stage_length grid.shape }
+    requires all_within { AllWithin tentative_size psi.now }
+    requires balance { Balance grid.shape masses.now report.now }
+    ensures { part.new ≡ blocks (elements grid.shape) (new_element grid.shape psi.now masses.now report.now) }
 {
     let n = grid.elements();
-    let mut start = 0;
-    let mut psi = step_layout::stage_start(grid, TENTATIVE);
-    for e in 0..n {
-        let goal = target(work, report, Element { grid, index: e });
+    // By number: of the parts that `chunks_exact_mut` has lent a proof knows only their lengths.
+    for index in 0..n {
+        let goal = target(masses, report, Element { grid, index });
+        let start = index * NUMBERS;
         let end = start + NUMBERS;
-        let psi_end = psi + NODES;
-        limiter::close(&mut part[start..end], &work[psi..psi_end], goal);
-        start = end;
-        psi = psi_end;
+        limiter::close(&mut part[start..end], &psi[index * NODES..], goal);
     }
 }
 
-// The step of a tracer's part, and its report.
+// The step of a tracer's part, and its report. What it works with stands in sections of `work`, one after the other: the stages, the sums
+// of tendencies, and what the faces and the elements have.
 pub(crate) fn step(part: &mut [u32], wind: &[i16], report: &mut [i32], work: &mut [i64], grid: Grid)
     requires part_len { length part.old ≡ elements_length quadratic grid.shape }
     requires part_bound { total quadratic grid.shape part.old ≤ limit }
     requires winds_in_range { WindsInRange grid.shape wind.now }
-    requires shape_in_bounds { faces grid.shape ≤ length report.old }
-    requires shape_in_bounds_2 { work_needed grid.shape ≤ length work.old }
+    requires report_len { length report.old ≡ faces grid.shape }
+    requires work_len { work_needed grid.shape ≤ length work.old }
     ensures part_after { part.new ≡ (tracer_step quadratic grid.shape (wind_at wind.now) part.old).part }
-    ensures report_after { report.new ≡ overwrite 0 (tracer_step quadratic grid.shape (wind_at wind.now) part.old).report report.old }
+    ensures report_after { report.new ≡ (tracer_step quadratic grid.shape (wind_at wind.now) part.old).report }
 {
-    step_stages::start(work, part, grid);
-    step_stages::advance(work, wind, grid, 0);
-    step_stages::advance(work, wind, grid, 1);
-    step_stages::advance(work, wind, grid, 2);
-    step_fluxes::fluxes(work, wind, grid);
-    step_correction::amounts(work, part, grid);
-    step_correction::limit(work, report, grid);
-    finish(part, work, report, grid);
+    let n = grid.elements();
+    let nodes = n * NODES;
+    let (phi0, rest) = work.split_at_mut(nodes);
+    let (phi1, rest) = rest.split_at_mut(nodes);
+    let (phi2, rest) = rest.split_at_mut(nodes);
+    let (psi, rest) = rest.split_at_mut(nodes);
+    let (sums, rest) = rest.split_at_mut(nodes);
+    let (fluxes, rest) = rest.split_at_mut(grid.faces());
+    let (masses, rest) = rest.split_at_mut(n);
+    let (outflows, _) = rest.split_at_mut(n);
+    step_stages::start(phi0, part, grid);
+    sums.fill(0);
+    step_stages::advance(phi1, sums, phi0, phi0, wind, grid, 0);
+    step_stages::advance(phi2, sums, phi0, phi1, wind, grid, 1);
+    step_stages::advance(psi, sums, phi0, phi2, wind, grid, 2);
+    step_fluxes::combine(sums, phi0, phi1, phi2); // in the place of the sums, which have done their work
+    step_fluxes::fluxes(fluxes, sums, wind, grid);
+    step_correction::masses(masses, part);
+    step_correction::outflows(outflows, fluxes, grid);
+    step_correction::limit(report, fluxes, outflows, masses, grid);
+    finish(part, psi, masses, report, grid);
 }

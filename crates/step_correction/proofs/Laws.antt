@@ -1,13 +1,13 @@
 -- The parts of a flux, its cut by one division toward zero, and an element's mass as it is lent: by cases on signs and on the test.
 use mathlib.Core.Path.{◌≡◌, refl, sym, ap, ap₂, ◌∙◌}
-use mathlib.Core.Bool.{true, false}
+use mathlib.Core.Bool.{true, false, cond}
 use Prim.Native.Nat.{ℕ, zero, suc, ◌+◌, ◌*◌, ◌/◌, ◌≤◌, ◌<◌}
 use native.Mathlib.Nat.{mul-zero, mul_comm, mul-le-mul_left, zero-div, le_refl, le_trans, le_of_eq, le_of_lt, div-le_of_le-mul}
 use native.Mathlib.Omega.{arith}
 use borrow.Author.Tests.{le-leb, lt-leb, leb-true, leb-false}
 use lib.Dec.{leb, nleb→lt}
 use lib.IntN.{ℤ, pos, negsuc, neg_ℤ, nat_abs, ◌+ℤ◌, ◌*ℤ◌}
-use lib.Signed.{le_z, quot_z, ◌≤ℤ◌}
+use lib.Signed.{le_z, quot_z, non_neg, ◌≤ℤ◌}
 use Rattle.whole.specs.Bound.{Within, Are}
 use mir.Syntax.{w64}
 use mir.Val.{to_z, of_z}
@@ -20,7 +20,10 @@ use lib.ListN.{get_or, take, drop}
 use Rattle.whole.proofs.OverwriteLaws.{part_at}
 use Rattle.whole.proofs.SumLaws.{sum-cong}
 use Rattle.rules.proofs.CorrectionLaws.{abs-with_sign}
-use Rattle.rules.specs.Field.{quadratic, element_length, cell, remainder, weighted, mass}
+use Rattle.rules.specs.Grid.{behind, ahead}
+use Rattle.rules.proofs.GridLaws.{behind-lt, ahead-lt}
+use Rattle.step_grid.specs.declared.Face.{Face}
+use Rattle.rules.specs.Field.{quadratic, elements, element_length, cell, remainder, weighted, mass}
 use Rattle.rules.specs.Limiter.{rescaled}
 use Rattle.rules.specs.Correction.{with_sign, cut}
 use Rattle.rules.specs.Sizes.{flux_size, outflow_size}
@@ -89,3 +92,10 @@ mass-part p e k ten = ap₂ ◌+◌ (sum-cong 9 _ _ (λ v h. ap (λ x. quadratic
 pub added : (r s t u a b c d : ℤ) → Are flux_size r a → Are flux_size s b → Are flux_size t c → Are flux_size u d
     → Are outflow_size (to_z w64 (of_z w64 (to_z w64 (of_z w64 (to_z w64 (of_z w64 r) +ℤ to_z w64 (of_z w64 s))) +ℤ to_z w64 (of_z w64 (to_z w64 (of_z w64 t) +ℤ to_z w64 (of_z w64 u)))))) (a +ℤ b +ℤ (c +ℤ d))
 added r s t u a b c d p q v w = bounded (search exacts depth 20) tt tt refl
+
+-- ---- the donor
+pub donor-in : (x : Face) (z : ℤ) → cond (non_neg z) (behind x.grid.shape x.index) (ahead x.grid.shape x.index) < elements x.grid.shape
+donor-in x z =
+    let g = x.grid.shape in
+    let h = x.grid.admitted in
+    cond_ind (non_neg z) (behind g x.index) (ahead g x.index) (λ d. d < elements g) (λ _. behind-lt g h.nx-above h.ny-above x.index x.inside) (λ _. ahead-lt g h.nx-above h.ny-above x.index x.inside)

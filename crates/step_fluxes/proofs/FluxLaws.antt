@@ -1,55 +1,59 @@
--- The fluxes that are made of work are document 01's G.
-use mathlib.Core.Path.{◌≡◌, refl, sym, ap, ◌∙◌}
+-- The fluxes that are made of the combined stages are document 01's G: a face takes the upwind values of all stages from the same donors.
+use mathlib.Core.Path.{◌≡◌, refl, ap, subst, ◌∙◌}
+use mathlib.Core.Bool.{Bool, true, false, cond}
 use mathlib.Core.List.{List}
-use Prim.Native.Nat.{ℕ, ◌+◌, ◌*◌, ◌≤◌, ◌<◌}
+use Prim.Native.Nat.{ℕ, ◌+◌, ◌*◌, ◌/◌, ◌%◌, ◌<◌}
 use native.Mathlib.Omega.{arith}
-use lib.IntN.{ℤ, pos, ◌+ℤ◌, ◌*ℤ◌}
-use Rattle.whole.specs.Table.{at}
-use Rattle.whole.proofs.OverwriteLaws.{part_at}
+use lib.IntN.{ℤ, pos, ◌*ℤ◌}
+use lib.Signed.{non_neg}
+use Rattle.whole.specs.Bound.{Within, AllWithin}
+use Rattle.whole.specs.Table.{table, at}
+use Rattle.whole.proofs.BoundLaws.{within-le, within-add, within-mul, within-pos}
+use Rattle.whole.proofs.TableLaws.{get_d-table, table-cong}
 use Rattle.whole.proofs.SumLaws.{sum_ℤ-cong}
 use Rattle.rules.specs.declared.Shape.{Shape}
-use Rattle.rules.specs.Field.{quadratic, elements, faces, north_face, Admitted}
-use Rattle.rules.specs.Grid.{east, north}
+use Rattle.rules.specs.Field.{quadratic, elements, faces, Admitted}
 use Rattle.rules.specs.Stages.{upwind, face_sum, flux_of, flux, Stages, stages}
-use Rattle.rules.proofs.GridLaws.{looks-east, looks-north, behind-east, ahead-east, behind-north, ahead-north}
-use Rattle.step_layout.specs.Sections.{stage_length, stage_start}
-use Rattle.step_grid.specs.Place.{Placed}
-use Rattle.step_grid.proofs.PlaceLaws.{east-in, north-in}
-use Rattle.step_upwind.specs.Upwind.{as_stage, upwind_start}
-use Rattle.step_upwind.proofs.TendencyLaws.{upwind-cong, upwind-east-at, upwind-north-at}
-use Rattle.step_stages.specs.Advance.{lent_stage}
-use Rattle.step_stages.proofs.StagesLaws.{stage_of, Holds, lent_is}
-use Rattle.step_fluxes.specs.Face.{line_value, stages_sum, face_flux, east_flux, north_flux}
-use Rattle.step_fluxes.proofs.Laws.{line-room, start-room}
+use Rattle.rules.specs.Sizes.{stage_size}
+use Rattle.step_upwind.specs.Upwind.{stage_length, listed, as_stage}
+use Rattle.step_upwind.proofs.ListedLaws.{listed-at, listed-within}
+use Rattle.step_upwind.proofs.TendencyLaws.{upwind-cong}
+use Rattle.step_stages.proofs.StagesLaws.{stage_of, stage_list}
+use Rattle.step_fluxes.specs.Face.{combined, face_flux}
 
-module _ (g : Shape) (c : ℕ → ℤ) (p : List ℕ) (admits : Admitted g) (m : ℕ) (w : List ℤ) (two : 2 ≤ m) (h : Holds g c p m w) where
+module _ (g : Shape) (c : ℕ → ℤ) (p : List ℕ) where
   abbrev s : Stages
   s = stages quadratic g c p
 
-  -- a face f whose upwind values in a list l stand from start on
-  module _ (f start stride : ℕ) (lf : f < faces g) (room : start + 2 * stride < stage_length g)
-      (stands : (l : List ℤ) (r : ℕ) → upwind quadratic g c (as_stage l) f r ≡ at l (start + stride * r)) where
-    value : (j : ℕ) → j ≤ 2 → (r : ℕ) → r < 3 → upwind quadratic g c (stage_of s j) f r ≡ line_value g w start stride j r
-    value j lj r l =
-        sym (upwind-cong g admits c (as_stage (lent_stage g j w)) (stage_of s j) (lent_is g c p m w h j (omega arith)) f r lf l)
-        ∙ stands (lent_stage g j w) r
-        ∙ part_at (stage_length g) (stage_start g j) (stage_length g) w (start + stride * r) (pos 0) refl (line-room start stride r room l)
+  abbrev together : ℕ → ℕ → ℤ
+  together e k = combined (s.φ0 e k) (s.φ1 e k) (s.φ2 e k)
 
-    flux-of : (b a last : ℕ) → start ≡ upwind_start (c f) b a last → face_flux g w (c f) b a last stride ≡ flux quadratic g c s f
-    unfolding face_flux flux stages_sum face_sum quadratic
-    flux-of b a last es = (λ i. flux_of quadratic (c f) (stages_sum g w (sym es i) stride))
-        ∙ ap (flux_of quadratic (c f)) (sum_ℤ-cong 3 _ _ (λ r l. λ i. pos (quadratic.line_weight r) *ℤ (sym (value 0 (omega arith) r l) i +ℤ pos 4 *ℤ sym (value 2 (omega arith) r l) i +ℤ sym (value 1 (omega arith) r l) i)))
+  -- the three stages combined, as a list
+  abbrev pub combined_list : List ℤ
+  combined_list = listed (stage_length g) together
 
-  module _ (e : ℕ) (le : e < elements g) where
-    placed : Placed g e
-    placed = record { admits = admits; inside = le }
+  pub combined-is : table (stage_length g) (λ i. combined (at (stage_list g c p 0) i) (at (stage_list g c p 1) i) (at (stage_list g c p 2) i)) ≡ combined_list
+  combined-is = table-cong (stage_length g) _ _ (λ i l. λ j. combined (value 0 i l j) (value 1 i l j) (value 2 i l j))
+    where
+      value : (m i : ℕ) → i < stage_length g → at (stage_list g c p m) i ≡ stage_of s m (i / 9) (i % 9)
+      value m i l = get_d-table (stage_length g) (λ i. stage_of s m (i / 9) (i % 9)) i (pos 0) l
 
-    pub east-flux-is : east_flux g c w e ≡ flux quadratic g c s e
-    east-flux-is = flux-of e (upwind_start (c e) e (east g e) 2) 3 (omega arith)
-        (start-room g (c e) e (east g e) 2 3 (omega arith) le (east-in placed))
-        (λ l r. upwind-east-at g c l e e (east g e) r (looks-east g e le) (behind-east g e le) (ahead-east g e le)) e (east g e) 2 refl
+  pub combined-small : ((m : ℕ) → m < 3 → AllWithin stage_size (stage_list g c p m)) → AllWithin (6 * stage_size) combined_list
+  combined-small h = listed-within (elements g) together (λ e k le lk. within-le (within-add (within-add (value 0 (omega arith) e k le lk) (within-mul (within-pos 4) (value 2 (omega arith) e k le lk))) (value 1 (omega arith) e k le lk)) (omega arith))
+    where
+      value : (m : ℕ) → m < 3 → (e k : ℕ) → e < elements g → k < 9 → Within stage_size (stage_of s m e k)
+      value m lm e k le lk = subst (Within stage_size) (listed-at (elements g) (stage_of s m) e k le lk) ((h m lm).all (e * 9 + k))
 
-    pub north-flux-is : north_flux g c w e ≡ flux quadratic g c s (north_face g e)
-    north-flux-is = flux-of (north_face g e) (upwind_start (c (north_face g e)) e (north g e) 6) 1 (omega arith)
-        (start-room g (c (north_face g e)) e (north g e) 6 1 (omega arith) le (north-in placed))
-        (λ l r. upwind-north-at g c l (north_face g e) e (north g e) r (looks-north g e) (behind-north g e le) (ahead-north g e le)) e (north g e) 6 refl
+  -- the upwind value of the combined stages is the combined upwind value
+  chosen : (f r : ℕ) → upwind quadratic g c together f r ≡ combined (upwind quadratic g c s.φ0 f r) (upwind quadratic g c s.φ1 f r) (upwind quadratic g c s.φ2 f r)
+  unfolding upwind
+  chosen f r = go (non_neg (c f)) _ _ _ _ _ _
+    where
+      go : (b : Bool) (x y x' y' x'' y'' : ℤ) → cond b (combined x x' x'') (combined y y' y'') ≡ combined (cond b x y) (cond b x' y') (cond b x'' y'')
+      go true x y x' y' x'' y'' = refl
+      go false x y x' y' x'' y'' = refl
+
+  pub fluxes-are : Admitted g → table (faces g) (face_flux g c combined_list) ≡ table (faces g) (flux quadratic g c s)
+  unfolding face_flux flux face_sum quadratic
+  fluxes-are h = table-cong (faces g) _ _ (λ f l. ap (flux_of quadratic (c f)) (sum_ℤ-cong 3 _ _ (λ r lr. ap (λ x. pos (quadratic.line_weight r) *ℤ x)
+      (upwind-cong g h c (as_stage combined_list) together (listed-at (elements g) together) f r l lr ∙ chosen f r))))

@@ -1,40 +1,48 @@
-// The face amounts G of a step (fluxes), from the stages in work.
-// Every function here is a leaf: the shape is admitted, work holds the stages, and their numbers are as small as a step makes them.
+// The face amounts G of a step (fluxes), from its three stages.
+// Every function here is a leaf: what is lent has its length, and its numbers are as small as a step makes them.
 #![tactic(auto)]
 
-ghost use Rattle.std.specs.Prelude.{◌+◌, ◌*◌, ◌<◌};
-ghost use Rattle.whole.specs.Bound.{Within, Are};
-ghost use Rattle.whole.specs.Written.{Written};
-ghost use Rattle.rules.specs.Field.{quadratic, elements};
+ghost use Rattle.std.specs.Prelude.{◌≡◌, cond, ◌+◌, ◌*◌, ◌<◌, length};
+ghost use Rattle.whole.specs.Bound.{Within, Are, AllWithin};
+ghost use Rattle.whole.specs.Table.{table, at};
+ghost use Rattle.rules.specs.Field.{quadratic, faces};
+ghost use Rattle.rules.specs.Grid.{looks_east};
 ghost use Rattle.rules.specs.Stages.{flux_of};
 ghost use Rattle.rules.specs.Calls.{wind_at};
-ghost use Rattle.rules.specs.Sizes.{face_sum_size, flux_size};
-ghost use Rattle.step_layout.specs.Sections.{stage_length, fluxes_start, north_fluxes_start};
-ghost use Rattle.step_upwind.specs.Upwind.{WindsInRange};
-ghost use Rattle.step_fluxes.specs.Face.{Staged, stages_sum, face_flux, east_flux, north_flux};
+ghost use Rattle.rules.specs.Sizes.{stage_size, face_sum_size, flux_size};
+ghost use Rattle.step_upwind.specs.Upwind.{stage_length, WindsInRange};
+ghost use Rattle.step_fluxes.specs.Face.{combined, line_sum, face_flux};
 
 use field_layout::Grid;
 use rules::element::{SIDE, line_weight};
-use step_grid::Element;
+use step_grid::Face;
 use step_upwind::{EAST_LINE, NORTH_LINE};
 
-// The sum over a face's nodes of the stages' upwind values, which stand at start, start + stride, .. in each stage.
-fn face_sum(work: &[i64], grid: Grid, start: usize, stride: usize) -> i64
-    requires staged { Staged grid.shape work.now }
-    requires stride_bound { start + 2 * stride < stage_length grid.shape }
-    ensures { Are face_sum_size result (stages_sum grid.shape work.now start stride) }
+// The stages' values as a face sums them, at every node. All three have the same donors, so that their sum has its upwind values, too.
+pub fn combine(values: &mut [i64], first: &[i64], second: &[i64], third: &[i64])
+    requires first_len { length first.now ≡ length values.old }
+    requires second_len { length second.now ≡ length values.old }
+    requires third_len { length third.now ≡ length values.old }
+    requires all_within { AllWithin stage_size first.now }
+    requires all_within_2 { AllWithin stage_size second.now }
+    requires all_within_3 { AllWithin stage_size third.now }
+    ensures { values.new ≡ table (length values.old) (λ i. combined (at first.now i) (at second.now i) (at third.now i)) }
 {
-    let first = step_layout::stage_start(grid, 0);
-    let second = step_layout::stage_start(grid, 1);
-    let third = step_layout::stage_start(grid, 2);
+    for (i, value) in values.iter_mut().enumerate() {
+        *value = first[i] + 4 * third[i] + second[i];
+    }
+}
+
+// The sum over a line of nodes, which stand at start, start + stride, ..: each value by its node's weight.
+fn line_sum(values: &[i64], start: usize, stride: usize) -> i64
+    requires stride_bound { start + 2 * stride < length values.now }
+    requires all_within { AllWithin (6 * stage_size) values.now }
+    ensures { Are face_sum_size result (line_sum values.now start stride) }
+{
     let mut sum: i64 = 0;
-    let mut at = start;
+    // By number: a node's number gives its weight and its place.
     for r in 0..SIDE {
-        let p0 = work[first + at];
-        let p1 = work[second + at];
-        let p2 = work[third + at];
-        sum += line_weight(r) * (p0 + 4 * p2 + p1);
-        at += stride;
+        sum += line_weight(r) * values[start + stride * r];
     }
     sum
 }
@@ -52,59 +60,41 @@ fn flux_of(c: i64, sum: i64) -> i64
     (2 * product + 4095 + odd) >> 13
 }
 
-// The flux of a face with wind c between the elements behind and ahead. The line of nodes at the face begins at node `last` of the
-// element behind it and goes on by `stride`.
-fn face_flux(
-    work: &[i64],
-    grid: Grid,
-    c: i64,
-    behind: usize,
-    ahead: usize,
-    last: usize,
-    stride: usize,
-) -> i64
-    requires staged { Staged grid.shape work.now }
-    requires within { Within 1024 c }
-    requires behind_bound { behind < elements grid.shape }
-    requires ahead_bound { ahead < elements grid.shape }
-    requires stride_bound { last + 2 * stride < 9 }
-    ensures { Are flux_size result (face_flux grid.shape work.now c behind ahead last stride) }
+// The line of nodes at a face: its first node in the element behind, and how much further the next one stands.
+fn line(face: Face) -> (usize, usize)
+    ensures last { result.0 ≡ cond (looks_east face.grid.shape face.index) 2 6 }
+    ensures stride { result.1 ≡ cond (looks_east face.grid.shape face.index) 3 1 }
 {
+    if face.looks_east() {
+        (EAST_LINE, SIDE)
+    } else {
+        (NORTH_LINE, 1)
+    }
+}
+
+// The flux of a face.
+fn face_flux(values: &[i64], wind: &[i16], face: Face) -> i64
+    requires values_len { length values.now ≡ stage_length face.grid.shape }
+    requires all_within { AllWithin (6 * stage_size) values.now }
+    requires winds_in_range { WindsInRange face.grid.shape wind.now }
+    ensures { Are flux_size result (face_flux face.grid.shape (wind_at wind.now) values.now face.index) }
+{
+    let c = i64::from(wind[face.index]);
+    let (behind, ahead) = face.ends();
+    let (last, stride) = line(face);
     let start = step_upwind::upwind_start(c, behind, ahead, last);
-    let sum = face_sum(work, grid, start, stride);
-    flux_of(c, sum)
+    flux_of(c, line_sum(values, start, stride))
 }
 
 // The fluxes of all faces.
-pub fn fluxes(work: &mut [i64], wind: &[i16], grid: Grid)
+pub fn fluxes(fluxes: &mut [i64], values: &[i64], wind: &[i16], grid: Grid)
+    requires fluxes_len { length fluxes.old ≡ faces grid.shape }
+    requires values_len { length values.now ≡ stage_length grid.shape }
+    requires all_within { AllWithin (6 * stage_size) values.now }
     requires winds_in_range { WindsInRange grid.shape wind.now }
-    requires staged { Staged grid.shape work.old }
-    ensures { Written (fluxes_start grid.shape) (north_fluxes_start grid.shape) (elements grid.shape) (east_flux grid.shape (wind_at wind.now) work.old) (north_flux grid.shape (wind_at wind.now) work.old) work.old work.new }
+    ensures { fluxes.new ≡ table (faces grid.shape) (face_flux grid.shape (wind_at wind.now) values.now) }
 {
-    let n = grid.elements();
-    let easts = step_layout::fluxes_start(grid);
-    let norths = step_layout::north_fluxes_start(grid);
-    for e in 0..n {
-        let element = Element { grid, index: e };
-        let east = face_flux(
-            work,
-            grid,
-            i64::from(wind[e]),
-            e,
-            element.east(),
-            EAST_LINE,
-            SIDE,
-        );
-        let north = face_flux(
-            work,
-            grid,
-            i64::from(wind[n + e]),
-            e,
-            element.north(),
-            NORTH_LINE,
-            1,
-        );
-        work[norths + e] = north;
-        work[easts + e] = east;
+    for (index, flux) in fluxes.iter_mut().enumerate() {
+        *flux = face_flux(values, wind, Face { grid, index });
     }
 }

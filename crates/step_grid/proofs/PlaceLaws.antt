@@ -1,26 +1,19 @@
 -- The neighbours of an element on the grid are on the grid.
-use mathlib.Core.Path.{◌≡◌}
-use Prim.Native.Nat.{ℕ, ◌≤◌, ◌<◌}
+use mathlib.Core.Path.{◌≡◌, sym, ap, ◌∙◌}
+use Prim.Native.Nat.{ℕ, ◌-◌, ◌≤◌, ◌<◌}
 use native.Mathlib.Omega.{arith}
 use Rattle.rules.specs.declared.Shape.{Shape}
-use Rattle.rules.specs.Field.{elements}
-use Rattle.rules.specs.Grid.{west, east, south, north}
-use Rattle.rules.specs.Sizes.{most_elements}
-use Rattle.rules.proofs.GridLaws.{west-lt, east-lt, south-lt, north-lt}
+use Rattle.rules.specs.Field.{elements, north_face}
+use Rattle.rules.specs.Grid.{west, east, south, north, behind, ahead}
+use Rattle.rules.proofs.GridLaws.{west-lt, east-lt, south-lt, north-lt, behind-north, ahead-north}
 use Rattle.rules.proofs.ShapeLaws.{elements-le}
-use Rattle.step_grid.specs.Place.{Placed}
+use Rattle.step_grid.specs.Place.{Placed, side_faces, OnGrid}
 use Rattle.step_grid.specs.declared.Element.{Element}
+use Rattle.step_grid.specs.declared.Face.{Face}
 
 -- an element of the code is on its grid
 pub placed : (x : Element) → Placed x.grid.shape x.index
 placed x = record { admits = x.grid.admitted; inside = x.inside }
-
--- the owners of an element's four faces: the element, its west neighbour w and its south neighbour s
-pub record FaceOwners (g : Shape) (e w s : ℕ) : Type 0 where
-  pub few : elements g ≤ most_elements
-  pub own : e < elements g
-  pub to-west : w < elements g
-  pub to-south : s < elements g
 
 module _ {g : Shape} {e : ℕ} (h : Placed g e) where
   pub west-in : west g e < elements g
@@ -35,5 +28,19 @@ module _ {g : Shape} {e : ℕ} (h : Placed g e) where
   pub north-in : north g e < elements g
   north-in = north-lt g h.admits.nx-above h.admits.ny-above e h.inside
 
-  pub face-owners : {w s : ℕ} → w ≡ west g e → s ≡ south g e → FaceOwners g e w s
-  face-owners ew es = record { few = elements-le g h.admits; own = h.inside; to-west = omega (arith, west-in); to-south = omega (arith, south-in) }
+-- an element's faces are on the grid
+pub sides-in : (x : Element) → OnGrid x.grid.shape (side_faces x.grid.shape x.index)
+sides-in x =
+    let g = x.grid.shape in
+    let h = placed x in
+    record { few = omega (arith, elements-le g h.admits); west = omega (arith, west-in h); east = omega (arith, h.inside); south = omega (arith, south-in h); north = omega (arith, h.inside) }
+
+-- the ends of a north face, by the element e that owns it
+pub north-ends : (x : Face) {n : ℕ} → n ≡ elements x.grid.shape → elements x.grid.shape ≤ x.index
+    → (x.index - n ≡ behind x.grid.shape x.index) × (north x.grid.shape (x.index - n) ≡ ahead x.grid.shape x.index)
+north-ends x {n} en h =
+    let g = x.grid.shape in
+    let e = x.index - n in
+    let f : north_face g e ≡ x.index = omega arith in
+    let l : e < elements g = omega (arith, x.inside) in
+    (sym (behind-north g e l) ∙ ap (behind g) f, sym (ahead-north g e l) ∙ ap (ahead g) f)

@@ -1,9 +1,10 @@
-// An element of the periodic grid, by its index, and its neighbours. The methods are leaves.
+// An element and a face of the periodic grid, by their numbers, and what lies beside them. The methods are leaves.
 #![tactic(auto)]
 
 ghost use Rattle.std.specs.Prelude.{◌≡◌, ◌<◌};
-ghost use Rattle.rules.specs.Field.{elements};
-ghost use Rattle.rules.specs.Grid.{west, east, south, north};
+ghost use Rattle.rules.specs.Field.{elements, faces};
+ghost use Rattle.rules.specs.Grid.{west, east, south, north, looks_east, behind, ahead};
+ghost use Rattle.step_grid.specs.Place.{side_faces, OnGrid};
 
 use field_layout::Grid;
 
@@ -52,5 +53,52 @@ impl Element {
         let n = self.grid.elements();
         let e = self.index;
         if e + nx < n { e + nx } else { e + nx - n }
+    }
+
+    // Its west, east, south and north face: its own are the second and the fourth, the others are its west and its south neighbour's.
+    pub fn sides(self) -> [usize; 4]
+        ensures faces { result ≡ side_faces self.grid.shape self.index }
+        ensures inside { OnGrid self.grid.shape result }
+    {
+        let n = self.grid.elements();
+        [self.west(), self.index, n + self.south(), n + self.index]
+    }
+}
+
+// A face that is on its grid: the east faces come first, in the order of the elements that own them, then the north faces.
+#[derive(Clone, Copy)]
+pub struct Face {
+    pub grid: Grid,
+    pub index: usize,
+    ghost inside: { index < faces grid.shape },
+}
+
+impl Face {
+    // Whether it is an east face.
+    pub fn looks_east(self) -> bool
+        ensures { result ≡ looks_east self.grid.shape self.index }
+    {
+        self.index < self.grid.elements()
+    }
+
+    // The element west or south of it, which owns it, and the one east or north of it.
+    pub fn ends(self) -> (usize, usize)
+        ensures behind { result.0 ≡ behind self.grid.shape self.index }
+        ensures ahead { result.1 ≡ ahead self.grid.shape self.index }
+    {
+        let grid = self.grid;
+        if self.looks_east() {
+            let owner = Element {
+                grid,
+                index: self.index,
+            };
+            (owner.index, owner.east())
+        } else {
+            let owner = Element {
+                grid,
+                index: self.index - grid.elements(),
+            };
+            (owner.index, owner.north())
+        }
     }
 }

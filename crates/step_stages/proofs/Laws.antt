@@ -1,27 +1,29 @@
--- The stages' divisors and factors, by cases on the stage; where an element's numbers stand; how large its tendencies are.
-use mathlib.Core.Path.{◌≡◌, refl, sym, ap, ◌∙◌}
+-- The stages' divisors and factors, by cases on the stage; how large an element's tendencies are.
+use mathlib.Core.Path.{◌≡◌, refl, sym, ap, ap₂, ◌∙◌}
 use mathlib.Core.List.{List, [], ◌∷◌}
 use mathlib.Core.Logic.{◌≢◌}
 use Prim.Native.Nat.{ℕ, zero, suc, ◌+◌, ◌*◌, ◌/◌, ◌%◌, ◌<◌}
 use native.Mathlib.Nat.{div-one}
 use native.Mathlib.Omega.{arith}
-use lib.IntN.{ℤ, pos, negsuc}
+use lib.IntN.{ℤ, pos, negsuc, ◌+ℤ◌, ◌*ℤ◌}
 use lib.ListN.{get_or, take, drop, get_or-map}
-use lib.Arith.{digits_div, digits_mod}
-use Rattle.whole.specs.Table.{table}
-use Rattle.whole.proofs.BoundLaws.{within-le, within-pos}
-use Rattle.whole.proofs.TableLaws.{table-all}
+use Rattle.whole.specs.Table.{table, at}
+use Rattle.whole.proofs.BoundLaws.{within-le, within-pos, within-add, within-mul}
+use Rattle.whole.proofs.TableLaws.{get_d-table, table-cong, table-all}
 use Rattle.rules.specs.declared.Shape.{Shape}
-use Rattle.rules.specs.Stages.{tendency}
+use Rattle.rules.specs.Stages.{stage0, tendency}
 use Rattle.rules.specs.Calls.{wind_at}
 use Rattle.rules.proofs.StageBounds.{quadratic-bounded, tendency-within}
-use Rattle.step_grid.specs.Place.{Placed}
-use Rattle.step_upwind.specs.Upwind.{as_stage, WindsInRange}
-use Rattle.rules.specs.Field.{quadratic, cell, element_length}
-use Rattle.rules.specs.Sizes.{tendency_size, stage_size}
+use Rattle.step_upwind.specs.Upwind.{stage_length, listed, as_stage, WindsInRange}
+use Rattle.step_upwind.proofs.ListedLaws.{flat, listed-within}
+use Rattle.rules.specs.Field.{quadratic, cell, element_length, elements, limit, Admitted}
+use Rattle.rules.specs.Sizes.{tendency_size, stage_size, sum_size, earlier_sum_size}
+use mir.Syntax.{w64}
+use mir.Val.{to_z, of_z}
+use Rattle.whole.proofs.Sizes.{exacts, exact}
 use Rattle.whole.proofs.OverwriteLaws.{part_at}
-use Rattle.whole.specs.Bound.{Within, AllWithin, floor_div}
-use Rattle.step_stages.specs.Advance.{factor, divisor, stored_value}
+use Rattle.whole.specs.Bound.{Within, Are, AllWithin, floor_div}
+use Rattle.step_stages.specs.Advance.{factor, divisor, new_value, new_sums, new_values}
 
 -- ---- the divisors
 pub floor-one : (z : ℤ) → floor_div z 1 ≡ z
@@ -47,20 +49,49 @@ factors = pos 1 ∷ pos 1 ∷ pos 4 ∷ []
 pub factor-is : (m : ℕ) → get_or factors m (pos 0) ≡ pos (factor m)
 factor-is m = get_or-map pos (1 ∷ 1 ∷ 4 ∷ []) m 0
 
--- ---- number k of element e, in a stage and in a tracer's part
-pub flat : (e k : ℕ) → k < 9 → ((e * 9 + k) / 9 ≡ e) × ((e * 9 + k) % 9 ≡ k)
-flat e k h = (digits_div e h, digits_mod e h)
+pub factor-small : (m : ℕ) → m < 3 → Within 4 (pos (factor m))
+factor-small zero h = record { within = omega arith }
+factor-small (suc zero) h = record { within = omega arith }
+factor-small (suc (suc zero)) h = record { within = omega arith }
+factor-small (suc (suc (suc m))) h = let f : ⊥ = omega arith in absurd f
 
-pub stored_at : (p : List ℕ) (e k n : ℕ) → n ≡ 10 → k < 9 → pos (get_or (take n (drop (e * 10) p)) k 0) ≡ stored_value p (e * 9 + k)
-unfolding cell element_length quadratic
-stored_at p e k n ten h =
-    let f = flat e k h in
-    ap pos (part_at 10 (e * 10) n p k 0 ten (omega arith)) ∙ (λ i. pos (get_or p (sym f.0 i * 10 + sym f.1 i) 0))
+-- ---- what a turn writes, as the machine computes it
+abbrev pub B : ℤ → ℤ
+B z = to_z w64 (of_z w64 z)
 
--- the tendencies of a stage, in a table
-pub tendencies-small : (g : Shape) (wind : List ℤ) (l : List ℤ) (e : ℕ) → Placed g e → WindsInRange g wind → AllWithin stage_size l → AllWithin tendency_size (table 9 (tendency quadratic g (wind_at wind) (as_stage l) e))
-unfolding quadratic
-tendencies-small g wind l e p c h = record {
-  all = table-all (Within tendency_size) 9 (tendency quadratic g (wind_at wind) (as_stage l) e) (pos 0) (within-le (within-pos 0) (omega arith))
-      (λ k q. tendency-within quadratic quadratic-bounded g p.admits.nx-above p.admits.ny-above (wind_at wind) c.small stage_size (as_stage l) (λ e k. h.all (e * 9 + k)) e k p.inside q);
-}
+pub add-exact : {s m t : ℤ} → Within earlier_sum_size s → Within 4 m → Within tendency_size t → B (B s +ℤ B (B m *ℤ B t)) ≡ s +ℤ m *ℤ t
+add-exact a b c = exact (search exacts depth 20) tt
+
+pub value-exact : {v r d : ℤ} → Within limit v → Are (sum_size + 1) r d → B (B v +ℤ B r) ≡ v +ℤ d
+value-exact a b = exact (search exacts depth 20) tt
+
+-- ---- what is added to an element's sums, that were lent from place e * 9 of all, of which those from there on are as they were
+pub sums-lent : (p old : List ℤ) (e n k : ℕ) → drop (e * 9) p ≡ drop (e * 9) old → n ≡ 9 → k < 9 → at (take n (drop (e * 9) p)) k ≡ as_stage old e k
+sums-lent p old e n k h en lk = ap (λ l. at (take n l) k) h ∙ part_at 9 (e * 9) n old k (pos 0) en lk
+
+-- ---- the stored values of an element, as its ten numbers are lent
+pub stored-lent : (p : List ℕ) (e n k : ℕ) → n ≡ 10 → k < 9 → pos (get_or (take n (drop (e * 10) p)) k 0) ≡ stage0 quadratic p e k
+unfolding stage0 cell element_length quadratic
+stored-lent p e n k ten lk = ap pos (part_at 10 (e * 10) n p k 0 ten (omega arith))
+
+-- ---- sizes: an element's tendencies, and the sums with them
+module _ (g : Shape) (wind from : List ℤ) (h : Admitted g) (c : WindsInRange g wind) (small : AllWithin stage_size from) where
+  tendency-small : (e k : ℕ) → e < elements g → k < 9 → Within tendency_size (tendency quadratic g (wind_at wind) (as_stage from) e k)
+  unfolding quadratic
+  tendency-small e k le lk = tendency-within quadratic quadratic-bounded g h.nx-above h.ny-above (wind_at wind) c.small stage_size (as_stage from) (λ e k. small.all (e * 9 + k)) e k le lk
+
+  pub tendencies-small : (e : ℕ) → e < elements g → AllWithin tendency_size (table 9 (tendency quadratic g (wind_at wind) (as_stage from) e))
+  tendencies-small e le = record { all = table-all (Within tendency_size) 9 (tendency quadratic g (wind_at wind) (as_stage from) e) (pos 0) (within-le (within-pos 0) (omega arith)) (λ k lk. tendency-small e k le lk) }
+
+  pub sums-small : (m : ℕ) (sums : List ℤ) → m < 3 → AllWithin earlier_sum_size sums → AllWithin sum_size (listed (stage_length g) (new_sums g (wind_at wind) m sums from))
+  sums-small m sums lm s = listed-within (elements g) (new_sums g (wind_at wind) m sums from) each
+    where
+      each : (e k : ℕ) → e < elements g → k < 9 → Within sum_size (new_sums g (wind_at wind) m sums from e k)
+      each e k le lk = within-le (within-add (s.all (e * 9 + k)) (within-mul (factor-small m lm) (tendency-small e k le lk))) (omega arith)
+
+-- ---- the next values, where the sums are new
+pub values-are : (g : Shape) (c : ℕ → ℤ) (m n : ℕ) (first sums sums' from : List ℤ) → n ≡ stage_length g → sums' ≡ listed (stage_length g) (new_sums g c m sums from)
+    → table n (λ i. new_value m (at first i) (at sums' i)) ≡ listed (stage_length g) (new_values g c m first sums from)
+values-are g c m n first sums sums' from en es =
+    ap (λ j. table j (λ i. new_value m (at first i) (at sums' i))) en
+    ∙ table-cong (stage_length g) _ _ (λ i l. ap₂ (new_value m) (sym (flat first i)) (ap (λ x. at x i) es ∙ get_d-table (stage_length g) (λ i. new_sums g c m sums from (i / 9) (i % 9)) i (pos 0) l))

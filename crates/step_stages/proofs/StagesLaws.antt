@@ -1,30 +1,25 @@
--- Work holds document 01's stages: after m passes it has stages 0 .. m and the sum of their tendencies, by induction over the passes, and
--- stage 3 is ψ; their sizes are those of `StageBounds`.
+-- The lists of the stages are document 01's: after m passes stage m and the sums of the tendencies before it, by cases on the pass; stage 3 is ψ.
+-- Their sizes are those of `StageBounds`.
 use mathlib.Core.Path.{◌≡◌, refl, sym, ap, ap₂, subst, ◌∙◌}
 use mathlib.Core.List.{List}
-use Prim.Native.Nat.{ℕ, zero, suc, ◌+◌, ◌*◌, ◌/◌, ◌%◌, ◌≤◌, ◌<◌}
-use native.Mathlib.Nat.{one-mul, mul-le-mul_right}
-use native.Mathlib.Decide.{dec_lt, ℕ_discrete}
+use Prim.Native.Nat.{ℕ, zero, suc, ◌*◌, ◌≤◌, ◌<◌}
+use native.Mathlib.Nat.{one-mul}
 use native.Mathlib.Omega.{arith}
 use lib.IntN.{ℤ, pos, negsuc, neg_ℤ, ◌+ℤ◌, ◌*ℤ◌, +ℤ_idl}
-use lib.ListN.{length, get_or, get_or-eq_default}
-use Rattle.whole.specs.Table.{at}
-use Rattle.whole.specs.Bound.{Within, floor_div}
-use Rattle.whole.specs.Written.{Written}
+use lib.ListN.{get_or, replicate}
+use Rattle.whole.specs.Bound.{Within, AllWithin, floor_div}
 use Rattle.whole.proofs.BoundLaws.{within-le, within-add, within-pos}
-use Rattle.whole.proofs.OverwriteLaws.{part_at, part-size}
-use Rattle.whole.proofs.TableLaws.{get_d-table}
+use Rattle.whole.proofs.OverwriteLaws.{table-const}
 use Rattle.rules.specs.declared.Shape.{Shape}
 use Rattle.rules.specs.Field.{quadratic, elements, faces, Admitted, limit}
 use Rattle.rules.specs.Stages.{tendency, tabulated, stage0, stage1, stage2, tentative, Stages, stages}
 use Rattle.rules.proofs.StageBounds.{quadratic-bounded, φ0-within, t0-within, φ1-within, t1-within, φ2-within}
 use Rattle.rules.specs.Sizes.{earlier_sum_size, stage_size}
-use Rattle.step_layout.proofs.Laws.{stage-ends}
-use Rattle.step_layout.specs.Sections.{stage_length, stage_start, sums_start, work_used}
-use Rattle.step_upwind.specs.Upwind.{as_stage}
+use Rattle.step_upwind.specs.Upwind.{stage_length, listed, as_stage}
+use Rattle.step_upwind.proofs.ListedLaws.{listed-at, listed-cong, listed-within}
 use Rattle.step_upwind.proofs.TendencyLaws.{tendency-cong}
-use Rattle.step_stages.specs.Advance.{new_sum, new_value, stored_value, Ready, grid_sums, grid_values, lent_stage}
-use Rattle.step_stages.proofs.Laws.{floor-one, flat}
+use Rattle.step_stages.specs.Advance.{new_sum, new_value, new_sums, new_values}
+use Rattle.step_stages.proofs.Laws.{floor-one}
 
 -- ---- the stages, their tendencies and the sums of these, by number
 abbrev pub stage_of : Stages → ℕ → ℕ → ℕ → ℤ
@@ -70,7 +65,7 @@ module _ (g : Shape) (c : ℕ → ℤ) (p : List ℕ) where
   -- a tabulated tendency, on the grid
   tabulated-at : (f : ℕ → ℕ → ℤ) (e k : ℕ) → e < elements g → k < 9 → tabulated quadratic (elements g) f e k ≡ f e k
   unfolding tabulated quadratic
-  tabulated-at f e k le lk = get_d-table (elements g * 9) (λ i. f (i / 9) (i % 9)) (e * 9 + k) (pos 0) (omega arith) ∙ ap₂ f (flat e k lk).0 (flat e k lk).1
+  tabulated-at f e k le lk = listed-at (elements g) f e k le lk
 
   tendency-is : (m e k : ℕ) → m < 3 → e < elements g → k < 9 → tendency_of s m e k ≡ tendency quadratic g c (stage_of s m) e k
   unfolding stages
@@ -79,54 +74,31 @@ module _ (g : Shape) (c : ℕ → ℤ) (p : List ℕ) where
   tendency-is (suc (suc zero)) e k h le lk = tabulated-at (tendency quadratic g c s.φ2) e k le lk
   tendency-is (suc (suc (suc m))) e k h le lk = let f : ⊥ = omega arith in absurd f
 
-  -- work after m passes
-  pub record Holds (m : ℕ) (w : List ℤ) : Type 0 where
-    pub long : work_used g ≤ length w
-    pub stage : (j : ℕ) → j ≤ m → (i : ℕ) → i < stage_length g → at w (stage_start g j + i) ≡ stage_of s j (i / 9) (i % 9)
-    pub sums : (i : ℕ) → i < stage_length g → at w (sums_start g + i) ≡ sum_of s m (i / 9) (i % 9)
+  -- ---- as lists
+  abbrev pub stage_list : ℕ → List ℤ
+  stage_list m = listed (stage_length g) (stage_of s m)
 
-  place : (i : ℕ) → i < stage_length g → (i / 9 < elements g) × (i % 9 < 9)
-  place i h = (omega arith, omega arith)
+  abbrev pub sums_list : ℕ → List ℤ
+  sums_list m = listed (stage_length g) (sum_of s m)
 
-  pub holds-start : (w w' : List ℤ) → work_used g ≤ length w → Written (stage_start g 0) (sums_start g) (stage_length g) (stored_value p) (λ _. pos 0) w w' → Holds 0 w'
-  unfolding stages stage0
-  holds-start w w' long h = record {
-    long = omega (arith, h.long);
-    stage = λ j l i q. let z : j ≡ 0 = omega arith in ap (λ n. at w' (stage_start g n + i)) z ∙ h.first i q ∙ ap (λ n. stage_of s n (i / 9) (i % 9)) (sym z);
-    sums = h.second;
-  }
+  pub first-stage : listed (stage_length g) (stage0 quadratic p) ≡ stage_list 0
+  unfolding stages
+  first-stage = refl
 
-  -- stage j, as it is lent
-  pub lent_is : (m : ℕ) (w : List ℤ) → Holds m w → (j : ℕ) → j ≤ m → (e k : ℕ) → e < elements g → k < 9 → as_stage (lent_stage g j w) e k ≡ stage_of s j e k
-  lent_is m w h j lj e k le lk = part_at (stage_length g) (stage_start g j) (stage_length g) w (e * 9 + k) (pos 0) refl (omega arith) ∙ h.stage j lj (e * 9 + k) (omega arith)
-      ∙ ap₂ (stage_of s j) (flat e k lk).0 (flat e k lk).1
+  pub first-sums : replicate (stage_length g) (pos 0) ≡ sums_list 0
+  first-sums = sym (table-const (stage_length g) (pos 0))
 
-  module _ (m : ℕ) (w : List ℤ) (lm : m < 3) (h : Holds m w) where
-    room : stage_start g m + stage_length g ≤ length w
-    room = omega (arith, stage-ends g {m = m} {k = 3} lm, h.long)
+  module _ (admits : Admitted g) (m : ℕ) (lm : m < 3) where
+    sum-next : (e k : ℕ) → e < elements g → k < 9 → new_sums g c m (sums_list m) (stage_list m) e k ≡ sum_of s (suc m) e k
+    sum-next e k le lk =
+        ap₂ (new_sum m) (listed-at (elements g) (sum_of s m) e k le lk) (tendency-cong g admits c (as_stage (stage_list m)) (stage_of s m) (listed-at (elements g) (stage_of s m)) e k le lk
+        ∙ sym (tendency-is m e k lm le lk))
 
-    sums-are : Admitted g → (i : ℕ) → i < stage_length g → grid_sums g c m w i ≡ sum_of s (suc m) (i / 9) (i % 9)
-    sums-are admits i q =
-        let r = place i q in
-        ap₂ (new_sum m) (h.sums i q) (tendency-cong g admits c (as_stage (lent_stage g m w)) (stage_of s m) (lent_is m w h m (omega arith)) (i / 9) (i % 9) r.0 r.1
-        ∙ sym (tendency-is m (i / 9) (i % 9) lm r.0 r.1))
+    pub next-sums : listed (stage_length g) (new_sums g c m (sums_list m) (stage_list m)) ≡ sums_list (suc m)
+    next-sums = listed-cong (elements g) _ _ sum-next
 
-    values-are : Admitted g → (i : ℕ) → i < stage_length g → grid_values g c m w i ≡ stage_of s (suc m) (i / 9) (i % 9)
-    values-are admits i q = ap₂ (new_value m) (h.stage 0 (omega arith) i q) (sums-are admits i q) ∙ next-is m (i / 9) (i % 9) lm
-
-    pub holds-next : Admitted g → (w' : List ℤ) → Written (stage_start g (m + 1)) (sums_start g) (stage_length g) (grid_values g c m w) (grid_sums g c m w) w w' → Holds (suc m) w'
-    holds-next admits w' v = record {
-      long = omega (arith, h.long, v.long);
-      stage = λ j l i q. go j i q (ℕ_discrete j (suc m)) l;
-      sums = λ i q. v.second i q ∙ sums-are admits i q;
-    }
-      where
-        go : (j i : ℕ) → i < stage_length g → Dec (j ≡ suc m) → j ≤ suc m → at w' (stage_start g j + i) ≡ stage_of s j (i / 9) (i % 9)
-        go j i q (yes e) l = ap (λ n. at w' (stage_start g n + i)) (omega arith) ∙ v.first i q ∙ values-are admits i q ∙ ap (λ n. stage_of s n (i / 9) (i % 9)) (sym e)
-        go j i q (no ne) l =
-            let below : stage_start g j + stage_length g ≤ stage_start g (m + 1) = stage-ends g {m = j} {k = m + 1} (omega (arith, ne)) in
-            let top : stage_start g (m + 1) ≤ stage_start g 3 = mul-le-mul_right (stage_length g) (omega arith) in
-            v.kept (stage_start g j + i) (λ x y. omega arith) (λ x y. omega arith) ∙ h.stage j (omega (arith, ne)) i q
+    pub next-stage : listed (stage_length g) (new_values g c m (stage_list 0) (sums_list m) (stage_list m)) ≡ stage_list (suc m)
+    next-stage = listed-cong (elements g) _ _ (λ e k le lk. ap₂ (new_value m) (listed-at (elements g) (stage_of s 0) e k le lk) (sum-next e k le lk) ∙ next-is m e k lm)
 
   -- ---- sizes: every stored value is at most the limit, every wind in its range
   module _ (admits : Admitted g) (wind-range : (f : ℕ) → f < faces g → Within 1024 (c f)) (small : (i : ℕ) → get_or p i 0 ≤ limit) where
@@ -148,21 +120,11 @@ module _ (g : Shape) (c : ℕ → ℤ) (p : List ℕ) where
     sum-within (suc (suc zero)) e k h = subst (Within earlier_sum_size) (sym (sum-2 e k)) (within-le (within-add (t0-small e k) (t1-small e k)) (omega arith))
     sum-within (suc (suc (suc m))) e k h = let f : ⊥ = omega arith in absurd f
 
-    pub ready : (m : ℕ) (w : List ℤ) → m < 3 → Holds m w → Ready g m w
-    ready m w lm h = record {
-      long = h.long;
-      stage = record { all = λ i. go i (dec_lt i (stage_length g)) };
-      values = λ i q. subst (Within limit) (sym (h.stage 0 (omega arith) i q)) (φ0-within quadratic quadratic-bounded g admits.nx-above admits.ny-above c wind-range p limit small (i / 9) (i % 9));
-      small = λ i q. subst (Within earlier_sum_size) (sym (h.sums i q)) (sum-within m (i / 9) (i % 9) lm);
-    }
-      where
-        lent : List ℤ
-        lent = lent_stage g m w
+    pub stage-small : (m : ℕ) → m < 3 → AllWithin stage_size (stage_list m)
+    stage-small m h = listed-within (elements g) (stage_of s m) (λ e k _ _. stage-within m e k h)
 
-        go : (i : ℕ) → Dec (i < stage_length g) → Within stage_size (at lent i)
-        go i (yes q) = subst (Within stage_size) (sym (part_at (stage_length g) (stage_start g m) (stage_length g) w i (pos 0) refl q ∙ h.stage m (omega arith) i q)) (stage-within m (i / 9) (i % 9) lm)
-        go i (no q) = subst (Within stage_size) (sym (get_or-eq_default lent (pos 0) (omega (arith, part-size (stage_length g) (stage_start g m) (stage_length g) w refl (room m w lm h))))) (within-le (within-pos 0) (omega arith))
+    pub stored-small : AllWithin limit (stage_list 0)
+    stored-small = listed-within (elements g) (stage_of s 0) (λ e k _ _. φ0-within quadratic quadratic-bounded g admits.nx-above admits.ny-above c wind-range p limit small e k)
 
-    -- the first three stages, whatever came after them
-    pub stages-small : (m : ℕ) (w : List ℤ) → 2 ≤ m → Holds m w → (j i : ℕ) → j < 3 → i < stage_length g → Within stage_size (at w (stage_start g j + i))
-    stages-small m w l h j i lj q = subst (Within stage_size) (sym (h.stage j (omega arith) i q)) (stage-within j (i / 9) (i % 9) lj)
+    pub sums-small : (m : ℕ) → m < 3 → AllWithin earlier_sum_size (sums_list m)
+    sums-small m h = listed-within (elements g) (sum_of s m) (λ e k _ _. sum-within m e k h)

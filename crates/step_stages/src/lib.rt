@@ -1,16 +1,16 @@
-// The stages of a step, in the caller's work: document 01's φ0, φ1, φ2 and, as stage 3, the tentative ψ.
-// Every function here is a leaf: the shape is admitted, work is long enough, and its numbers are as small as the stages are.
+// The stages of a step: document 01's φ0, φ1, φ2 and, as stage 3, the tentative ψ, each a list of nine numbers an element.
+// Every function here is a leaf: what is lent has its length, and its numbers are as small as the stages are.
 #![tactic(auto)]
 
-ghost use Rattle.std.specs.Prelude.{◌≡◌, ◌+◌, ◌≤◌, ◌<◌, pos, length, get_or};
+ghost use Rattle.std.specs.Prelude.{◌≡◌, ◌+◌, ◌<◌, pos, ◌+ℤ◌, ◌*ℤ◌, length, get_or};
 ghost use Rattle.whole.specs.Bound.{Within, Are, AllWithin, floor_div};
-ghost use Rattle.whole.specs.Written.{Written};
-ghost use Rattle.rules.specs.Field.{quadratic, elements_length};
-ghost use Rattle.rules.specs.Sizes.{tendency_size, sum_size};
+ghost use Rattle.whole.specs.Table.{table, at};
+ghost use Rattle.rules.specs.Field.{quadratic, elements_length, limit};
+ghost use Rattle.rules.specs.Sizes.{tendency_size, sum_size, earlier_sum_size, stage_size};
+ghost use Rattle.rules.specs.Stages.{stage0};
 ghost use Rattle.rules.specs.Calls.{wind_at};
-ghost use Rattle.step_layout.specs.Sections.{stage_length, stage_start, sums_start, work_used};
-ghost use Rattle.step_upwind.specs.Upwind.{WindsInRange};
-ghost use Rattle.step_stages.specs.Advance.{factor, divisor, Lent, element_sums, element_values, stored_value, Ready, grid_sums, grid_values};
+ghost use Rattle.step_upwind.specs.Upwind.{stage_length, listed, WindsInRange};
+ghost use Rattle.step_stages.specs.Advance.{factor, divisor, new_value, new_sums, new_values};
 
 use field_layout::Grid;
 use rules::element::{NODES, NUMBERS};
@@ -18,6 +18,66 @@ use step_grid::Element;
 
 // How often a stage's tendency counts in the sum of tendencies.
 const FACTORS: [i64; 3] = [1, 1, 4];
+
+// An element's stored values.
+fn store(values: &mut [i64], numbers: &[u32])
+    requires values_len { length values.old ≡ 9 }
+    requires numbers_len { length numbers.now ≡ 10 }
+    ensures { values.new ≡ table 9 (λ k. pos (get_or numbers.now k 0)) }
+{
+    for (k, value) in values.iter_mut().enumerate() {
+        *value = i64::from(numbers[k]);
+    }
+}
+
+// Stage 0 of a tracer's part: its stored values.
+pub fn start(stage: &mut [i64], part: &[u32], grid: Grid)
+    requires stage_len { length stage.old ≡ stage_length grid.shape }
+    requires part_len { length part.now ≡ elements_length quadratic grid.shape }
+    ensures { stage.new ≡ listed (stage_length grid.shape) (stage0 quadratic part.now) }
+{
+    let n = grid.elements();
+    // By number, here and below: of the parts that `chunks_exact_mut` has lent a proof knows only their lengths.
+    for index in 0..n {
+        let to = index * NODES;
+        let to_end = to + NODES;
+        let from = index * NUMBERS;
+        let from_end = from + NUMBERS;
+        store(&mut stage[to..to_end], &part[from..from_end]);
+    }
+}
+
+// An element's sums with `times` its tendencies t.
+fn add(sums: &mut [i64], t: &[i64; NODES], times: i64)
+    requires sums_len { length sums.old ≡ 9 }
+    requires all_within { AllWithin earlier_sum_size sums.old }
+    requires all_within_2 { AllWithin tendency_size t.now }
+    requires within { Within 4 times }
+    ensures { sums.new ≡ table 9 (λ k. at sums.old k +ℤ times *ℤ at t.now k) }
+{
+    for (k, sum) in sums.iter_mut().enumerate() {
+        *sum += times * t[k];
+    }
+}
+
+// The sums of all elements with the tendencies of a stage.
+fn add_tendencies(sums: &mut [i64], from: &[i64], wind: &[i16], grid: Grid, stage: usize)
+    requires stage_bound { stage < 3 }
+    requires sums_len { length sums.old ≡ stage_length grid.shape }
+    requires all_within { AllWithin earlier_sum_size sums.old }
+    requires from_len { length from.now ≡ stage_length grid.shape }
+    requires all_within_2 { AllWithin stage_size from.now }
+    requires winds_in_range { WindsInRange grid.shape wind.now }
+    ensures { sums.new ≡ listed (stage_length grid.shape) (new_sums grid.shape (wind_at wind.now) stage sums.old from.now) }
+{
+    let n = grid.elements();
+    for index in 0..n {
+        let t = step_upwind::tendencies(from, wind, Element { grid, index });
+        let start = index * NODES;
+        let end = start + NODES;
+        add(&mut sums[start..end], &t, FACTORS[stage]);
+    }
+}
 
 // A sum of tendencies by its stage's divisor, rounded down.
 fn divided(stage: usize, sum: i64) -> i64
@@ -34,80 +94,42 @@ fn divided(stage: usize, sum: i64) -> i64
     whole::floor_div(sum, 6)
 }
 
-// One element: its sums with `times` the tendencies t, and from them its values of the next stage.
-fn advance_element(
-    work: &mut [i64],
-    from: usize,
-    to: usize,
-    sums: usize,
-    stage: usize,
-    times: i64,
-    t: &[i64; NODES],
-)
-    requires lent { Lent work.old from to sums stage }
-    requires times_value { times ≡ pos (factor stage) }
-    requires all_within { AllWithin tendency_size t.now }
-    ensures { Written to sums 9 (element_values stage from sums t.now work.old) (element_sums stage sums t.now work.old) work.old work.new }
-{
-    for k in 0..NODES {
-        let value = work[from + k];
-        let sum = work[sums + k] + times * t[k];
-        work[sums + k] = sum;
-        work[to + k] = value + divided(stage, sum);
-    }
-}
-
-// From a stage to the next one: every element's tendencies, sums and values.
-pub fn advance(work: &mut [i64], wind: &[i16], grid: Grid, stage: usize)
-    requires winds_in_range { WindsInRange grid.shape wind.now }
+// The values of the next stage, from those of stage 0 and the sums.
+fn set_values(next: &mut [i64], first: &[i64], sums: &[i64], stage: usize)
     requires stage_bound { stage < 3 }
-    requires ready { Ready grid.shape stage work.old }
-    ensures { Written (stage_start grid.shape (stage + 1)) (sums_start grid.shape) (stage_length grid.shape) (grid_values grid.shape (wind_at wind.now) stage work.old) (grid_sums grid.shape (wind_at wind.now) stage work.old) work.old work.new }
+    requires first_len { length first.now ≡ length next.old }
+    requires all_within { AllWithin limit first.now }
+    requires sums_len { length sums.now ≡ length next.old }
+    requires all_within_2 { AllWithin sum_size sums.now }
+    ensures { next.new ≡ table (length next.old) (λ i. new_value stage (at first.now i) (at sums.now i)) }
 {
-    let n = grid.elements();
-    let start = step_layout::stage_start(grid, stage);
-    let end = step_layout::stage_start(grid, stage + 1);
-    let mut from = step_layout::stage_start(grid, 0);
-    let mut to = end;
-    let mut sums = step_layout::sums_start(grid);
-    let times = FACTORS[stage];
-    for e in 0..n {
-        let t = step_upwind::tendencies(&work[start..end], wind, Element { grid, index: e });
-        advance_element(work, from, to, sums, stage, times, &t);
-        from += NODES;
-        to += NODES;
-        sums += NODES;
+    for (i, value) in next.iter_mut().enumerate() {
+        *value = first[i] + divided(stage, sums[i]);
     }
 }
 
-// One element's stored values as stage 0, and zero sums.
-fn start_element(work: &mut [i64], numbers: &[u32], to: usize, sums: usize)
-    requires numbers_len { length numbers.now ≡ 10 }
-    requires to_bound { to + 9 ≤ sums }
-    requires sums_in_bounds { sums + 9 ≤ length work.old }
-    ensures { Written to sums 9 (λ k. pos (get_or numbers.now k 0)) (λ _. pos 0) work.old work.new }
+// From a stage to the next one: the sums with its tendencies, and from them and stage 0 the next one's values.
+pub fn advance(
+    next: &mut [i64],
+    sums: &mut [i64],
+    first: &[i64],
+    from: &[i64],
+    wind: &[i16],
+    grid: Grid,
+    stage: usize,
+)
+    requires stage_bound { stage < 3 }
+    requires next_len { length next.old ≡ stage_length grid.shape }
+    requires sums_len { length sums.old ≡ stage_length grid.shape }
+    requires all_within { AllWithin earlier_sum_size sums.old }
+    requires first_len { length first.now ≡ stage_length grid.shape }
+    requires all_within_2 { AllWithin limit first.now }
+    requires from_len { length from.now ≡ stage_length grid.shape }
+    requires all_within_3 { AllWithin stage_size from.now }
+    requires winds_in_range { WindsInRange grid.shape wind.now }
+    ensures sums_after { sums.new ≡ listed (stage_length grid.shape) (new_sums grid.shape (wind_at wind.now) stage sums.old from.now) }
+    ensures next_after { next.new ≡ listed (stage_length grid.shape) (new_values grid.shape (wind_at wind.now) stage first.now sums.old from.now) }
 {
-    for k in 0..NODES {
-        work[sums + k] = 0;
-        work[to + k] = i64::from(numbers[k]);
-    }
-}
-
-// Stage 0 of a tracer's part, and zero sums.
-pub fn start(work: &mut [i64], part: &[u32], grid: Grid)
-    requires part_len { length part.now ≡ elements_length quadratic grid.shape }
-    requires shape_in_bounds { work_used grid.shape ≤ length work.old }
-    ensures { Written (stage_start grid.shape 0) (sums_start grid.shape) (stage_length grid.shape) (stored_value part.now) (λ _. pos 0) work.old work.new }
-{
-    let n = grid.elements();
-    let mut from = 0;
-    let mut to = step_layout::stage_start(grid, 0);
-    let mut sums = step_layout::sums_start(grid);
-    for e in 0..n {
-        let end = from + NUMBERS;
-        start_element(work, &part[from..end], to, sums);
-        from = end;
-        to += NODES;
-        sums += NODES;
-    }
+    add_tendencies(sums, from, wind, grid, stage);
+    set_values(next, first, sums, stage);
 }

@@ -2,7 +2,7 @@
 -- reads, and by where each upwind value stands in a stage that is a list.
 use mathlib.Core.Path.{◌≡◌, sym, ap, ap₂, ◌∙◌}
 use mathlib.Core.Bool.{Bool, true, false, cond, not}
-use mathlib.Core.List.{List, [], ◌∷◌}
+use mathlib.Core.List.{List}
 use Prim.Native.Nat.{ℕ, zero, suc, ◌+◌, ◌*◌, ◌/◌, ◌%◌, ◌≤◌, ◌<◌}
 use native.Mathlib.Nat.{mul-le-mul_left}
 use native.Mathlib.Omega.{arith}
@@ -23,11 +23,10 @@ use Rattle.rules.specs.Stages.{node, upwind, place_wind, advection, along_x, alo
 use Rattle.rules.specs.Calls.{wind_at}
 use Rattle.rules.proofs.GridLaws.{west-lt, south-lt, east-west, north-south, looks-east, looks-north, behind-lt, ahead-lt, behind-east, ahead-east, behind-north, ahead-north}
 use Rattle.rules.specs.Sizes.{stage_size}
-use Rattle.step_layout.specs.Sections.{stage_length}
-use Rattle.step_grid.specs.Place.{Placed}
+use Rattle.step_grid.specs.Place.{Placed, side_faces}
 use Rattle.step_grid.proofs.PlaceLaws.{west-in, south-in}
 use Rattle.step_tendency.specs.Line.{local_tendency}
-use Rattle.step_upwind.specs.Upwind.{as_stage, WindsInRange, side_winds, lasts, strides, upwind_start, side_start, upwind_place, Reached}
+use Rattle.step_upwind.specs.Upwind.{stage_length, as_stage, WindsInRange, side_winds, lasts, strides, upwind_start, side_start, upwind_place, Reached}
 use Rattle.step_upwind.proofs.Laws.{four, behind-inside, ahead-inside}
 
 -- ---- what an advection and a tendency read
@@ -58,15 +57,12 @@ local-cong v v' c u u' k hk hv hu =
     λ i. floor_div (pos (ω b) *ℤ x' i +ℤ pos (ω a) *ℤ y' i) (8192 * (ω a * ω b))
 
 module _ (g : Shape) (c : ℕ → ℤ) (φ : ℕ → ℕ → ℤ) (e : ℕ) where
-  -- the faces of the four sides, and upwind value m of twelve
-  abbrev pub side_faces : List ℕ
-  side_faces = west g e ∷ e ∷ north_face g (south g e) ∷ north_face g e ∷ []
-
+  -- upwind value m of twelve
   abbrev pub side_value : ℕ → ℤ
-  side_value m = upwind quadratic g c φ (get_or side_faces (m / 3) 0) (m % 3)
+  side_value m = upwind quadratic g c φ (get_or (side_faces g e) (m / 3) 0) (m % 3)
 
-  side-at : (s r m : ℕ) → r < 3 → m ≡ 3 * s + r → upwind quadratic g c φ (get_or side_faces s 0) r ≡ side_value m
-  side-at s r m h q = let es : s ≡ m / 3 = omega arith in let er : r ≡ m % 3 = omega arith in λ i. upwind quadratic g c φ (get_or side_faces (es i) 0) (er i)
+  side-at : (s r m : ℕ) → r < 3 → m ≡ 3 * s + r → upwind quadratic g c φ (get_or (side_faces g e) s 0) r ≡ side_value m
+  side-at s r m h q = let es : s ≡ m / 3 = omega arith in let er : r ≡ m % 3 = omega arith in λ i. upwind quadratic g c φ (get_or (side_faces g e) (es i) 0) (er i)
 
   pub tendency-local : (k : ℕ) → k < 9 → tendency quadratic g c φ e k ≡ local_tendency (φ e) (at (side_winds g c e)) side_value k
   unfolding tendency along_x along_y local_tendency quadratic
@@ -97,8 +93,8 @@ module _ (g : Shape) (h : Admitted g) (c : ℕ → ℤ) (φ φ' : ℕ → ℕ �
       ∙ local-cong (φ e) (φ' e) (at (side_winds g c e)) (side_value g c φ e) (side_value g c φ' e) k lk (λ i l. same e i le l) (λ m l. upwind-cong _ (m % 3) (faces-lt (m / 3) (omega arith)) (omega arith))
       ∙ sym (tendency-local g c φ' e k lk)
     where
-      faces-lt : (s : ℕ) → s < 4 → get_or (side_faces g c φ e) s 0 < faces g
-      faces-lt = four (λ s. get_or (side_faces g c φ e) s 0 < faces g)
+      faces-lt : (s : ℕ) → s < 4 → get_or (side_faces g e) s 0 < faces g
+      faces-lt = four (λ s. get_or (side_faces g e) s 0 < faces g)
           (omega (arith, west-lt g h.nx-above h.ny-above e le)) (omega arith) (omega (arith, south-lt g h.nx-above h.ny-above e le)) (omega arith)
 
 -- ---- a stage that is a list
@@ -130,8 +126,8 @@ module _ (g : Shape) (c : ℕ → ℤ) (l : List ℤ) (e : ℕ) (h : Placed g e)
   starts = table 4 (side_start g (side_winds g c e) e)
 
   -- where the upwind values of side s stand
-  pub side-stands : (s : ℕ) → s < 4 → (r : ℕ) → upwind quadratic g c (as_stage l) (get_or (side_faces g c (as_stage l) e) s 0) r ≡ at l (side_start g (side_winds g c e) e s + get_or strides s 0 * r)
-  side-stands = four (λ s. (r : ℕ) → upwind quadratic g c (as_stage l) (get_or (side_faces g c (as_stage l) e) s 0) r ≡ at l (side_start g (side_winds g c e) e s + get_or strides s 0 * r))
+  pub side-stands : (s : ℕ) → s < 4 → (r : ℕ) → upwind quadratic g c (as_stage l) (get_or (side_faces g e) s 0) r ≡ at l (side_start g (side_winds g c e) e s + get_or strides s 0 * r)
+  side-stands = four (λ s. (r : ℕ) → upwind quadratic g c (as_stage l) (get_or (side_faces g e) s 0) r ≡ at l (side_start g (side_winds g c e) e s + get_or strides s 0 * r))
       (λ r. upwind-east-at g c l (west g e) (west g e) e r (looks-east g (west g e) wl) (behind-east g (west g e) wl) (ahead-east g (west g e) wl ∙ east-west g x y e h.inside))
       (λ r. upwind-east-at g c l e e (east g e) r (looks-east g e h.inside) (behind-east g e h.inside) (ahead-east g e h.inside))
       (λ r. upwind-north-at g c l (north_face g (south g e)) (south g e) e r (looks-north g (south g e)) (behind-north g (south g e) sl) (ahead-north g (south g e) sl ∙ north-south g x y e h.inside))

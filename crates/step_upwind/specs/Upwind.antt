@@ -1,14 +1,20 @@
 -- Where upwind values stand in a stage that is a list, nine numbers an element.
 use Rattle.std.specs.Prelude.{cond, List, [], ◌∷◌, ℕ, ◌+◌, ◌*◌, ◌/◌, ◌%◌, ◌≤◌, ◌<◌, ℤ, pos, negsuc, length, get_or}
 use Rattle.std.specs.Int.Signed.{non_neg}
-use Rattle.whole.specs.Table.{at}
+use Rattle.whole.specs.Table.{table, at}
 use Rattle.whole.specs.Bound.{Within}
 use Rattle.rules.specs.declared.Shape.{Shape}
-use Rattle.rules.specs.Field.{faces, north_face}
+use Rattle.rules.specs.Field.{elements, faces, north_face}
 use Rattle.rules.specs.Grid.{west, east, south, north}
 use Rattle.rules.specs.Calls.{wind_at}
 
--- a list as a stage
+-- how many numbers a stage has; a list as one, and the first n numbers of one as a list
+abbrev pub stage_length : Shape → ℕ
+stage_length g = elements g * 9
+
+abbrev pub listed : ℕ → (ℕ → ℕ → ℤ) → List ℤ
+listed n φ = table n (λ i. φ (i / 9) (i % 9))
+
 abbrev pub as_stage : List ℤ → ℕ → ℕ → ℤ
 as_stage l e k = at l (e * 9 + k)
 

@@ -9,8 +9,7 @@ ghost use Rattle.rules.specs.Field.{quadratic};
 ghost use Rattle.rules.specs.Sizes.{most_elements, stage_size};
 ghost use Rattle.rules.specs.Stages.{tendency};
 ghost use Rattle.rules.specs.Calls.{wind_at};
-ghost use Rattle.step_layout.specs.Sections.{stage_length};
-ghost use Rattle.step_upwind.specs.Upwind.{as_stage, WindsInRange, side_winds, sign, upwind_start, side_start, upwind_place, Reached};
+ghost use Rattle.step_upwind.specs.Upwind.{stage_length, as_stage, WindsInRange, side_winds, sign, upwind_start, side_start, upwind_place, Reached};
 
 use rules::element::{NODES, SIDE};
 use std::array;
@@ -27,14 +26,10 @@ fn side_winds(wind: &[i16], element: Element) -> [i64; 4]
     requires { WindsInRange element.grid.shape wind.now }
     ensures { result ≡ side_winds element.grid.shape (wind_at wind.now) element.index }
 {
-    let n = element.grid.elements();
-    let e = element.index;
-    let west = element.west();
-    let south = n + element.south();
-    let north = n + e;
+    let [west, east, south, north] = element.sides();
     [
         i64::from(wind[west]),
-        i64::from(wind[e]),
+        i64::from(wind[east]),
         i64::from(wind[south]),
         i64::from(wind[north]),
     ]

@@ -6,7 +6,6 @@ pub mod TableLaws
 pub mod FromFn
 pub mod OverwriteLaws
 pub mod ListParts
-pub mod WrittenLaws
 pub mod BoundLaws
 pub mod Sizes
 pub mod FloorLaws

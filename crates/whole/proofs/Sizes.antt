@@ -11,7 +11,7 @@ use native.Mathlib.Omega.{arith}
 use lib.Bits.{bit_and}
 use lib.Dec.{T, ltb, leb, leb→le, ltb→lt}
 use lib.IntN.{ℤ, pos, negsuc, neg_ℤ, nat_abs, ◌+ℤ◌, ◌*ℤ◌}
-use lib.ListN.{get_or, set}
+use lib.ListN.{get_or}
 use lib.Signed.{mag, quot_z, rem_z, lt_z, le_z}
 use mir.Syntax.{Width, w16, w32, w64}
 use mir.Val.{SFits, Fits, bits, hbits, to_z, of_z}
@@ -49,10 +49,6 @@ exact p t = p.same t
 
 pub are-eq : {n : ℕ} {r z z' : ℤ} → Are n r z → z ≡ z' → Are n r z'
 are-eq {n} p e = record { same = p.same ∙ e; bound = subst (λ (x : ℤ). Within n x) e p.bound }
-
--- what a call gave of a number that the machine reads back
-pub are_at : {n : ℕ} {r z : ℤ} (f : ℤ → ℤ) (z' : ℤ) → Are n r (f z) → (p : Exact z z') → T p.good → Are n r (f z')
-are_at f z' h p t = are-eq h (ap f (p.same t))
 
 pub bounded : {n : ℕ} {r z z' : ℤ} (p : Exact r z) → T p.good → T (leb p.size n) → z ≡ z' → Are n r z'
 bounded {n} p g t e = are-eq (record { same = p.same g; bound = subst (λ (x : ℤ). Within n x) (p.same g) (within-le p.small (leb→le p.size n t)) }) e
@@ -199,10 +195,6 @@ e-own w z h = record { size = 2 ^ hbits w; small = within-back w z (within-mag z
 abbrev pub e-i16 : (z : ℤ) → mag z < 2 ^ 15 → Exact (to_z w16 (of_z w16 z)) z
 e-i16 z h = e-own w16 z h
 
--- an i16 as an i64
-pub widened : (z : ℤ) → mag z < 2 ^ 15 → to_z w64 (of_z w64 (to_z w16 (of_z w16 z))) ≡ z
-widened z h = to_z-of_z (fits {w = w64} {z = to_z w16 (of_z w16 z)} (record { size = 2 ^ 15; small = within-back w16 z (within-mag z (2 ^ 15) h) }) tt) ∙ to_z-of_z {w = w16} (record { sfits = h })
-
 abbrev pub e-i32 : (z : ℤ) → mag z < 2 ^ 31 → Exact (to_z w32 (of_z w32 z)) z
 e-i32 z h = e-own w32 z h
 
@@ -212,30 +204,7 @@ u32-back n f = to_z_pos w64 (omega (arith, f.fits))
 abbrev pub e-u32 : (n : ℕ) → Fits w32 n → Exact (to_z w64 n) (pos n)
 e-u32 n f = record { size = 2 ^ 32; small = subst (λ (x : ℤ). Within (2 ^ 32) x) (sym (u32-back n f)) (s-u32 n f).small; good = true; same = λ t. u32-back n f }
 
--- what is read back stands on both sides
-abbrev pub e-both : (w : Width) (z : ℤ) → Sized z → Exact (to_z w (of_z w z)) (to_z w (of_z w z))
-e-both w z p = record { size = p.size; small = within-back w z p.small; good = true; same = λ t. refl }
-
--- ---- rules for stores and tests
-pub record ExactList (l l' : List ℤ) : Type 0 where
-  pub goods : Bool
-  pub sames : T goods → l ≡ l'
-
-pub exact-list : {l l' : List ℤ} (p : ExactList l l') → T p.goods → l ≡ l'
-exact-list p t = p.sames t
-
-pub set_same : {l l' : List ℤ} {r z : ℤ} (i : ℕ) (p : ExactList l l') (q : Exact r z) → T (p.goods && q.good) → set l i r ≡ set l' i z
-set_same i p q t = let y = and_yes p.goods q.good t in λ k. set (p.sames y.0 k) i (q.same y.1 k)
-
-abbrev pub l-set : (l l' : List ℤ) (i : ℕ) (r z : ℤ) → ExactList l l' → Exact r z → ExactList (set l i r) (set l' i z)
-l-set l l' i r z p q = record { goods = p.goods && q.good; sames = λ t. set_same i p q t }
-
-abbrev pub l-refl : (l : List ℤ) → ExactList l l
-l-refl l = record { goods = true; sames = λ t. refl }
-
-abbrev pub l_eq : (l l' : List ℤ) → l ≡ l' → ExactList l l'
-l_eq l l' e = record { goods = true; sames = λ t. e }
-
+-- ---- rules for tests
 pub record ExactTest (t t' : Bool) : Type 0 where
   pub goodt : Bool
   pub samet : T goodt → t ≡ t'
@@ -259,8 +228,6 @@ pub ruleset exacts-shift = (e-leaf, e-pos, e-neg-suc, e-table, e-at, e-call, e-b
 pub ruleset sizes-wide = (sizes, s-i16, s-i32, s-u32, s-quot, s-rem)
 
 pub ruleset exacts-wide = (exacts, e-quot, e-rem, e-u32, t-lt, t-le)
-
-pub ruleset exact-lists = (exacts, e-both, s-leaf, s-at, s_call, l-set, l-refl, l_eq)
 
 pub ruleset sizes-parity = (sizes, s-parity)
 

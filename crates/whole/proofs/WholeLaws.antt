@@ -6,7 +6,7 @@ use native.Mathlib.Omega.{arith}
 use borrow.Author.Tests.{lt-ltb}
 use lib.Dec.{ltb, le→leb, lt→ltb, ltb→lt, nltb→le}
 use lib.IntN.{ℤ, pos, negsuc, neg_ℤ, nat_abs, sub_ℕ, ◌+ℤ◌, ◌-ℤ◌, ◌*ℤ◌}
-use lib.Signed.{◌≤ℤ◌, ◌<ℤ◌}
+use lib.Signed.{◌≤ℤ◌}
 use Rattle.std.specs.Int.{int_max}
 use Rattle.whole.specs.Parts.{positive, negative}
 use Rattle.whole.specs.Bound.{floor_div}
@@ -141,11 +141,6 @@ abs-mul (negsuc a) (pos b) = abs_neg (pos (suc a * b))
 abs-mul (negsuc a) (negsuc b) = refl
 
 -- ---- what tests against 0 say of the positive part
-pub positive-below : (z : ℤ) → z <ℤ pos 0 → positive z ≡ 0
-unfolding positive
-positive-below (pos n) h = let k : n < 0 = ltb→lt n 0 h.lt in let f : ⊥ = omega arith in absurd f
-positive-below (negsuc n) h = refl
-
 pub above-positive : (z : ℤ) → pos 0 ≤ℤ z → z ≡ pos (positive z)
 unfolding positive
 above-positive (pos n) h = refl

@@ -4,4 +4,3 @@ pub mod Sum
 pub mod Table
 pub mod Bound
 pub mod Nearest
-pub mod Written

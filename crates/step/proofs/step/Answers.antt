@@ -12,16 +12,15 @@ use Rattle.rules.proofs.AnswerLaws.{passed_on}
 use Rattle.rules.specs.Field.{quadratic, part, total}
 use Rattle.rules.specs.Step.{tracer_step}
 use Rattle.rules.specs.Calls.{step, lent, wind_at, done, call}
-use Rattle.whole.specs.Table.{overwrite}
 use Rattle.rules.proofs.PartLaws.{length-part, part-is-elements}
-use Rattle.rules.proofs.StepLaws.{length-after}
+use Rattle.rules.proofs.StepLaws.{length-after, report-length}
 use Rattle.rules.specs.Stages.{stages}
 use Rattle.field_layout.proofs.GridLaws.{refused-2}
 use Rattle.field.proofs.CheckLaws.{call-accepted, call-bad-shape}
 use Rattle.field_layout.proofs.PlaceLaws.{field_is, field-le, tracer-room}
-use Rattle.step.proofs.CheckLaws.{Stepping, stepping, plain-refused, report-accepted, work-accepted, left, on_shape, part-back}
+use Rattle.step.proofs.CheckLaws.{Stepping, stepping, plain-refused, report-back, report-accepted, work-accepted, left, on_shape, part-back}
 use Rattle.step.proofs.step.Goals as goal
-use Rattle.step.proofs.step.Goals.{After-elements_length, After-work-1, After-work_needed-needed, In_ok-check}
+use Rattle.step.proofs.step.Goals.{After-elements_length, After-work_needed-needed, In_ok-check}
 
 -- what the checks have shown
 facts : (c : In_ok-check) → Stepping c.in_ok-grid.grid.shape c.args.tracer c.args.field.now c.args.wind.now (length c.args.report.now) (length c.args.work.now)
@@ -52,25 +51,37 @@ offset_bounds-field-start c = omega (arith, ends (goal.at.offset_bounds-field-st
 pub slice_bounds-step-end : goal.slice_bounds-step-end
 slice_bounds-step-end c = omega (arith, ends (goal.at.slice_bounds-step-end c).After-elements_length)
 
--- the numbers of work that are needed are there, and they alone are lent
-works-there : (c : After-work_needed-needed) → c.work_needed-needed.result ≤ length c.args.work.now
-works-there c = omega (arith, c.work_needed-needed.ensures, (facts c.before.before.before).works)
+-- the numbers of the report and of work that are needed are there, and they alone are lent
+reports-there : (c : After-work_needed-needed) → Stepping c.in_ok-grid.grid.shape c.args.tracer c.args.field.now c.args.wind.now (length c.args.report.now) (length c.args.work.now) → c.faces-faces.result ≤ length c.args.report.now
+reports-there c h = omega (arith, c.faces-faces.ensures, h.reports)
 
-lent-long : (c : After-work_needed-needed) → length (take c.work_needed-needed.result c.args.work.now) ≡ c.work_needed-needed.result
-lent-long c = length-take-le c.work_needed-needed.result c.args.work.now (works-there c)
+works-there : (c : After-work_needed-needed) → Stepping c.in_ok-grid.grid.shape c.args.tracer c.args.field.now c.args.wind.now (length c.args.report.now) (length c.args.work.now) → c.work_needed-needed.result ≤ length c.args.work.now
+works-there c h = omega (arith, c.work_needed-needed.ensures, h.works)
 
 pub slice_bounds-step-end-2 : goal.slice_bounds-step-end-2
-slice_bounds-step-end-2 c = works-there (goal.at.slice_bounds-step-end-2 c).After-work_needed-needed
+slice_bounds-step-end-2 c = reports-there (goal.at.slice_bounds-step-end-2 c).After-work_needed-needed (facts (goal.at.slice_bounds-step-end-2 c).In_ok-check)
 
 pub slice_bounds-step-end-3 : goal.slice_bounds-step-end-3
-slice_bounds-step-end-3 c = sym (lent-long (goal.at.slice_bounds-step-end-3 c).After-work_needed-needed)
+slice_bounds-step-end-3 c = sym (length-take-le c.faces-faces.result _ (reports-there (goal.at.slice_bounds-step-end-3 c).After-work_needed-needed (facts (goal.at.slice_bounds-step-end-3 c).In_ok-check)))
+
+pub slice_bounds-step-end-4 : goal.slice_bounds-step-end-4
+slice_bounds-step-end-4 c = works-there (goal.at.slice_bounds-step-end-4 c).After-work_needed-needed (facts (goal.at.slice_bounds-step-end-4 c).In_ok-check)
+
+pub slice_bounds-step-end-5 : goal.slice_bounds-step-end-5
+slice_bounds-step-end-5 c = sym (length-take-le c.work_needed-needed.result _ (works-there (goal.at.slice_bounds-step-end-5 c).After-work_needed-needed (facts (goal.at.slice_bounds-step-end-5 c).In_ok-check)))
 
 pub step-requires : goal.step-requires
 step-requires c =
     let a = c.args in
     let g = c.in_ok-grid.grid.shape in
     let h = facts (goal.at.step-requires c).In_ok-check in
-    record { part_len = ap length (lent_is (goal.at.step-requires c).After-elements_length) ∙ length-part quadratic g a.tracer a.field.now h.tracer h.room ∙ part-is-elements quadratic g; part_bound = omega (arith, ap (total quadratic g) (lent_is (goal.at.step-requires c).After-elements_length), h.within-limit); winds_in_range = h.wind-range; shape_in_bounds = h.reports; shape_in_bounds_2 = omega (arith, lent-long (goal.at.step-requires c).After-work_needed-needed, c.work_needed-needed.ensures) }
+    let lent = lent_is (goal.at.step-requires c).After-elements_length in record {
+      part_len = ap length lent ∙ length-part quadratic g a.tracer a.field.now h.tracer h.room ∙ part-is-elements quadratic g;
+      part_bound = omega (arith, ap (total quadratic g) lent, h.within-limit);
+      winds_in_range = h.wind-range;
+      report_len = length-take-le c.faces-faces.result a.report.now (reports-there (goal.at.step-requires c).After-work_needed-needed h) ∙ c.faces-faces.ensures;
+      work_len = omega (arith, length-take-le c.work_needed-needed.result a.work.now (works-there (goal.at.step-requires c).After-work_needed-needed h), c.work_needed-needed.ensures);
+    }
 
 pub returns-in_err-grid : goal.returns-in_err-grid
 returns-in_err-grid c =
@@ -103,7 +114,9 @@ returns c =
     let w = wind_at a.wind.now in
     let p = part quadratic g a.tracer a.field.now in
     let x = c.step.new.work in
-    let back : length x ≡ length (take c.work_needed-needed.result a.work.now) = c.work-1.given.0 in
+    let y = c.step.new.report in
+    let there = works-there (goal.at.returns c).After-work_needed-needed h in
+    let report : y ≡ (tracer_step quadratic g w p).report = c.step.ensures.report_after ∙ ap (λ x. (tracer_step quadratic g w x).report) (lent_is (goal.at.returns c).After-elements_length) in
     let e = h.answers in
     let q = call-accepted g a.tracer (step l) a.field.now _ e in
     on_shape _ a.tracer (step l) a.field.now a.report.now a.work.now c.in_ok-grid.ensures.1 (
@@ -111,6 +124,9 @@ returns c =
       (
         part-back g a.tracer s.result (s.result + n - s.result) _ (tracer_step quadratic g w p).part a.field.now s.ensures (add-sub_cancel_left s.result n ∙ c.elements_length.ensures)
             (c.step.ensures.part_after ∙ ap (λ x. (tracer_step quadratic g w x).part) (lent_is (goal.at.returns c).After-elements_length)) (length-after quadratic g h.shape.nx-above h.shape.ny-above w p (stages quadratic g w p)) ∙ q.1,
-        (c.step.ensures.report_after ∙ ap (λ x. overwrite 0 (tracer_step quadratic g w x).report a.report.now) (lent_is (goal.at.returns c).After-elements_length) ∙ report-accepted _ _ a.report.now e, work-accepted g _ _ a.work.now x _ e (ap (λ k. x ++ drop k a.work.now) c.work_needed-needed.ensures) (back ∙ lent-long (goal.at.returns c).After-work_needed-needed ∙ c.work_needed-needed.ensures) (search rules)),
+        (
+          report-back c.faces-faces.result _ a.report.now (c.faces-faces.ensures ∙ sym (report-length quadratic g h.shape.nx-above h.shape.ny-above w p (stages quadratic g w p))) report ∙ report-accepted _ _ a.report.now e,
+          work-accepted g _ _ a.work.now x _ e (ap (λ k. x ++ drop k a.work.now) c.work_needed-needed.ensures) (search rules) (search rules),
+        ),
       ),
     )

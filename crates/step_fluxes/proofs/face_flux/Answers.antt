@@ -1,38 +1,52 @@
+-- A face's flux: its wind, its ends and its line are read, so that the line begins where the rules' upwind values stand.
 use mathlib.Core.Path.{◌≡◌, ap, ap₂, ◌∙◌}
 use native.Mathlib.Omega.{arith}
-use mir.Syntax.{w64}
-use mir.Facts.{to_z-of_z}
-use Rattle.whole.proofs.Sizes.{sizes, exacts, within, bounded, read_back}
+use mir.Syntax.{w16, w64}
+use Rattle.whole.proofs.Sizes.{back_is, are-eq, read_back}
+use Rattle.rules.specs.Calls.{wind_at}
 use Rattle.rules.specs.Field.{quadratic}
 use Rattle.rules.specs.Stages.{flux_of}
+use Rattle.rules.proofs.GridLaws.{behind-lt, ahead-lt}
 use Rattle.rules.proofs.ShapeLaws.{elements-le}
 use Rattle.step_upwind.specs.Upwind.{upwind_start}
-use Rattle.step_fluxes.specs.Face.{stages_sum, face_flux}
-use Rattle.step_fluxes.proofs.Laws.{start-room}
+use Rattle.step_fluxes.specs.Face.{line_sum}
+use Rattle.step_fluxes.proofs.Laws.{B, begin, line-room, flux-by-line}
 use Rattle.step_fluxes.proofs.face_flux.Goals as goal
 use Rattle.step_fluxes.proofs.face_flux.Goals.{After-upwind_start-start}
 
-pub upwind_start-start-requires : goal.upwind_start-start-requires
-upwind_start-start-requires c =
-    let h = c.requires in
-    let few = elements-le c.args.grid.shape c.args.grid.admitted in
-    record { behind_lt_most_elements = omega (arith, few, h.behind_bound); ahead_lt_most_elements = omega (arith, few, h.ahead_bound); last_bound = omega (arith, h.stride_bound) }
+pub upwind_start-start-requires-clause-behind_lt_most_elements : goal.upwind_start-start-requires-clause-behind_lt_most_elements
+upwind_start-start-requires-clause-behind_lt_most_elements c =
+    let x = c.args.face in
+    let h = x.grid.admitted in
+    omega (arith, c.ends-behind.ensures.behind, behind-lt x.grid.shape h.nx-above h.ny-above x.index x.inside, elements-le x.grid.shape h)
 
-begun : (c : After-upwind_start-start) → c.upwind_start-start.result ≡ upwind_start c.args.c c.args.behind c.args.ahead c.args.last
-begun c = let a = c.args in c.upwind_start-start.ensures ∙ ap (λ z. upwind_start z a.behind a.ahead a.last) (to_z-of_z c.ranges.c)
+pub upwind_start-start-requires-clause-ahead_lt_most_elements : goal.upwind_start-start-requires-clause-ahead_lt_most_elements
+upwind_start-start-requires-clause-ahead_lt_most_elements c =
+    let x = c.args.face in
+    let h = x.grid.admitted in
+    omega (arith, c.ends-behind.ensures.ahead, ahead-lt x.grid.shape h.nx-above h.ny-above x.index x.inside, elements-le x.grid.shape h)
 
-pub face_sum-sum-requires : goal.face_sum-sum-requires
-face_sum-sum-requires c =
-    let a = c.args in
-    let h = c.requires in
-    record { staged = h.staged; stride_bound = omega (arith, begun (goal.at.face_sum-sum-requires c).After-upwind_start-start, start-room a.grid.shape a.c a.behind a.ahead a.last a.stride h.stride_bound h.behind_bound h.ahead_bound) }
+-- the wind as it is read
+wind-is : (c : After-upwind_start-start) → B c.from-c.result ≡ wind_at c.args.wind.now c.args.face.index
+wind-is c =
+    let z = wind_at c.args.wind.now c.args.face.index in
+    let h = c.requires.winds_in_range.small c.args.face.index c.args.face.inside in
+    ap B (c.from-c.ensures ∙ back_is w16 z h tt) ∙ back_is w64 z h tt
 
-pub flux_of-requires : goal.flux_of-requires
-flux_of-requires c = let h = c.requires.within in let s = c.face_sum-sum.ensures in record { within = within (search sizes depth 20) tt; within_2 = within (search sizes depth 20) tt }
+begun : (c : After-upwind_start-start) → c.upwind_start-start.result ≡ begin c.args.face.grid.shape (wind_at c.args.wind.now) c.args.values.now c.args.face.index
+begun c =
+    let e = c.ends-behind.ensures in
+    c.upwind_start-start.ensures ∙ (λ i. upwind_start (wind-is c i) (e.behind i) (e.ahead i) (c.line-last.ensures.last i))
+
+pub line_sum-requires-clause-stride_bound : goal.line_sum-requires-clause-stride_bound
+line_sum-requires-clause-stride_bound c =
+    let x = c.args.face in
+    omega (arith, begun (goal.at.line_sum-requires-clause-stride_bound c).After-upwind_start-start, c.line-last.ensures.stride, c.requires.values_len, line-room x.grid.shape (wind_at c.args.wind.now) c.args.values.now x.index x.grid.admitted x.inside)
 
 pub returns : goal.returns
-unfolding face_flux
 returns c =
-    let a = c.args in
-    let s = read_back w64 c.face_sum-sum.ensures tt ∙ ap (λ x. stages_sum a.grid.shape a.work.now x a.stride) (begun (goal.at.returns c).After-upwind_start-start) in
-    bounded (search exacts depth 20) tt tt (ap₂ (flux_of quadratic) (to_z-of_z c.ranges.c) s)
+    let x = c.args.face in
+    let v = c.args.values.now in
+    let w = wind_at c.args.wind.now in
+    let s = read_back w64 c.line_sum.ensures tt ∙ (λ i. line_sum v (begun (goal.at.returns c).After-upwind_start-start i) (c.line-last.ensures.stride i)) in
+    are-eq (record { same = read_back w64 c.flux_of.ensures tt; bound = c.flux_of.ensures.bound }) (ap₂ (flux_of quadratic) (wind-is (goal.at.returns c).After-upwind_start-start) s ∙ flux-by-line x.grid.shape w v x.index)

@@ -1,10 +1,8 @@
--- Stage 0 and zero sums: the invariant is both stretches of work, written as far as the turn's element.
-use mathlib.Core.Path.{◌≡◌}
-use Prim.Native.Nat.{◌≤◌, ◌+◌, ◌*◌}
-use lib.IntN.{pos}
-use Rattle.whole.specs.Written.{Written}
-use Rattle.step_stages.specs.Advance.{stored_value}
+use Rattle.whole.specs.Table.{table}
+use Rattle.field_elements.proofs.FillLaws.{BlocksFilled}
+use Rattle.rules.specs.Field.{quadratic, elements}
+use Rattle.rules.specs.Stages.{stage0}
 use Rattle.step_stages.proofs.start.Given as goal
 
-abbrev pub invariant-loop-e : goal.invariant-loop-e
-invariant-loop-e l = (l.e ≤ l.n) × (l.from ≡ l.e * 10) × (l.to ≡ l.initial.to + l.e * 9) × (l.sums ≡ l.initial.sums + l.e * 9) × Written l.initial.to l.initial.sums (l.e * 9) (stored_value l.part) (λ _. pos 0) l.initial.work l.work
+abbrev pub invariant-loop-index : goal.invariant-loop-index
+invariant-loop-index l = BlocksFilled 9 (λ e. table 9 (stage0 quadratic l.part e)) l.initial.stage (elements l.fn.grid.shape) l.index l.stage

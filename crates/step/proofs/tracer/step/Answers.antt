@@ -1,74 +1,159 @@
--- The passes one after the other: what each asks follows from what work holds after the one before (`TracerLaws`).
-use mathlib.Core.Path.{◌∙◌}
-use Prim.Native.Nat.{◌≤◌}
+-- A step's passes: each section is the rules' list after its call (`TracerLaws`), so that what the next call asks holds.
+use mathlib.Core.Path.{◌≡◌, sym, subst, ◌∙◌}
+use Prim.Native.Nat.{◌*◌}
 use native.Mathlib.Omega.{arith}
 use lib.ListN.{length}
+use Rattle.whole.specs.Bound.{AllWithin}
+use Rattle.rules.specs.Field.{limit}
+use Rattle.rules.specs.Sizes.{stage_size, earlier_sum_size, flux_size, tentative_size}
 use Rattle.rules.specs.Step.{tracer_step}
-use Rattle.step_layout.specs.Sections.{work_used}
-use Rattle.step_layout.proofs.Laws.{used_le}
-use Rattle.step.proofs.TracerLaws.{Given, Passed, stage-0, stage-next, before-stage, before-fluxes, Fluxed, fluxed, before-amounts, Weighed, weighed, before-limit, reported, before_finish, all_closed}
+use Rattle.field_layout.proofs.PlaceLaws.{elements-are}
+use Rattle.step.proofs.TracerLaws.{Given, mass-small, phi, sums, phi-small, phi0-small, earlier-small, psi-small, stored, passed-1, passed-2, advanced, together-small, put_together, fluxed, fluxes-small, weighed, drained, reported, amounts-of, balance-of, all_closed}
 use Rattle.step.proofs.tracer.step.Goals as goal
-use Rattle.step.proofs.tracer.step.Goals.{After-advance, After-advance-2, After-advance-3, After-amounts, After-fluxes, After-start, Start}
+use Rattle.step.proofs.tracer.step.Goals.{After-split_at_mut-outflows, After-start, After-fill, After-advance, After-advance-2, After-advance-3, After-combine, After-fluxes, After-masses, After-outflows, After-limit, Start}
 
 given : (c : Start) → Given c.args.grid.shape c.args.wind.now c.args.part.now
-given c = record { admits = c.args.grid.admitted; winds = c.requires.winds_in_range; numbers = c.requires.part_len; within-limit = c.requires.part_bound }
+given c = let h = c.requires in record { admits = c.args.grid.admitted; winds = h.winds_in_range; numbers = h.part_len; within-limit = h.part_bound }
 
-used : (c : Start) → work_used c.args.grid.shape ≤ length c.args.work.now
-used c = omega (arith, c.requires.shape_in_bounds_2, used_le c.args.grid.shape)
+-- ---- the stages
+at-1 : (c : After-advance) (h : Given c.args.grid.shape c.args.wind.now c.args.part.now) → (c.start.new.stage ≡ phi h 0) × ((c.advance.new.next ≡ phi h 1) × (c.advance.new.sums ≡ sums h 1))
+at-1 c h =
+    let n = c.elements-n.ensures in
+    passed-1 h c.start.ensures (omega (arith, c.split_at_mut-sums.ensures.front_len, n)) (c.fill.ensures.after (λ y e. e)) c.advance.ensures.sums_after c.advance.ensures.next_after
 
--- ---- what work holds after each pass, and so what the next one asks
-pub start-requires : goal.start-requires
-start-requires c = record { part_len = c.requires.part_len; shape_in_bounds = used (goal.at.start-requires c).Start }
+at-2 : (c : After-advance-2) (h : Given c.args.grid.shape c.args.wind.now c.args.part.now)
+    → (c.start.new.stage ≡ phi h 0) × ((c.advance.new.next ≡ phi h 1) × ((c.advance-2.new.next ≡ phi h 2) × (c.advance-2.new.sums ≡ sums h 2)))
+at-2 c h =
+    let n = c.elements-n.ensures in
+    let q = passed-1 h c.start.ensures (omega (arith, c.split_at_mut-sums.ensures.front_len, n)) (c.fill.ensures.after (λ y e. e)) c.advance.ensures.sums_after c.advance.ensures.next_after in
+    passed-2 h q c.advance-2.ensures.sums_after c.advance-2.ensures.next_after
 
-passed-0 : (c : After-start) → Passed (given c.before.before.before) 0 c.start.new.work
-passed-0 c = stage-0 (given c.before.before.before) (used c.before.before.before) c.start.ensures
+at-3 : (c : After-advance-3) (h : Given c.args.grid.shape c.args.wind.now c.args.part.now) → c.advance-3.new.next ≡ phi h 3
+at-3 c h =
+    let n = c.elements-n.ensures in
+    let q = passed-1 h c.start.ensures (omega (arith, c.split_at_mut-sums.ensures.front_len, n)) (c.fill.ensures.after (λ y e. e)) c.advance.ensures.sums_after c.advance.ensures.next_after in
+    let r = passed-2 h q c.advance-2.ensures.sums_after c.advance-2.ensures.next_after in
+    (advanced h 2 (omega arith) r.0 r.1.1.1 r.1.1.0 c.advance-3.ensures.sums_after c.advance-3.ensures.next_after).0
 
-pub advance-requires : goal.advance-requires
-advance-requires c = record { winds_in_range = c.requires.winds_in_range; stage_bound = omega arith; ready = before-stage (given (goal.at.advance-requires c).Start) 0 (omega arith) (passed-0 (goal.at.advance-requires c).After-start) }
+pub advance-requires-clause-all_within_2 : goal.advance-requires-clause-all_within_2
+advance-requires-clause-all_within_2 c =
+    let h = given (goal.at.advance-requires-clause-all_within_2 c).Start in
+    subst (AllWithin limit) (sym (stored h c.start.ensures)) (phi0-small h)
 
-passed-1 : (c : After-advance) → Passed (given c.before.before.before.before.before.before) 1 c.advance.new.work
-passed-1 c = stage-next (given c.before.before.before.before.before.before) 0 (omega arith) (passed-0 c.before.before.before) c.advance.ensures
+pub advance-requires-clause-all_within_3 : goal.advance-requires-clause-all_within_3
+advance-requires-clause-all_within_3 c =
+    let h = given (goal.at.advance-requires-clause-all_within_3 c).Start in
+    subst (AllWithin stage_size) (sym (stored h c.start.ensures)) (phi-small h 0 (omega arith))
 
-pub advance-requires-2 : goal.advance-requires-2
-advance-requires-2 c = record { winds_in_range = c.requires.winds_in_range; stage_bound = omega arith; ready = before-stage (given (goal.at.advance-requires-2 c).Start) 1 (omega arith) (passed-1 (goal.at.advance-requires-2 c).After-advance) }
+pub advance-requires-2-clause-all_within : goal.advance-requires-2-clause-all_within
+advance-requires-2-clause-all_within c =
+    let h = given (goal.at.advance-requires-2-clause-all_within c).Start in
+    subst (AllWithin earlier_sum_size) (sym ((at-1 (goal.at.advance-requires-2-clause-all_within c).After-advance h).1.1)) (earlier-small h 1 (omega arith))
 
-passed-2 : (c : After-advance-2) → Passed (given c.before.before.before.before.before.before.before.before.before) 2 c.advance-2.new.work
-passed-2 c = stage-next (given c.before.before.before.before.before.before.before.before.before) 1 (omega arith) (passed-1 c.before.before.before) c.advance-2.ensures
+pub advance-requires-2-clause-all_within_2 : goal.advance-requires-2-clause-all_within_2
+advance-requires-2-clause-all_within_2 c =
+    let h = given (goal.at.advance-requires-2-clause-all_within_2 c).Start in
+    subst (AllWithin limit) (sym ((at-1 (goal.at.advance-requires-2-clause-all_within_2 c).After-advance h).0)) (phi0-small h)
 
-pub advance-requires-3 : goal.advance-requires-3
-advance-requires-3 c = record { winds_in_range = c.requires.winds_in_range; stage_bound = omega arith; ready = before-stage (given (goal.at.advance-requires-3 c).Start) 2 (omega arith) (passed-2 (goal.at.advance-requires-3 c).After-advance-2) }
+pub advance-requires-2-clause-all_within_3 : goal.advance-requires-2-clause-all_within_3
+advance-requires-2-clause-all_within_3 c =
+    let h = given (goal.at.advance-requires-2-clause-all_within_3 c).Start in
+    subst (AllWithin stage_size) (sym ((at-1 (goal.at.advance-requires-2-clause-all_within_3 c).After-advance h).1.0)) (phi-small h 1 (omega arith))
 
-passed-3 : (c : After-advance-3) → Passed (given c.before.before.before.before.before.before.before.before.before.before.before.before) 3 c.advance-3.new.work
-passed-3 c = stage-next (given c.before.before.before.before.before.before.before.before.before.before.before.before) 2 (omega arith) (passed-2 c.before.before.before) c.advance-3.ensures
+pub advance-requires-3-clause-all_within : goal.advance-requires-3-clause-all_within
+advance-requires-3-clause-all_within c =
+    let h = given (goal.at.advance-requires-3-clause-all_within c).Start in
+    subst (AllWithin earlier_sum_size) (sym ((at-2 (goal.at.advance-requires-3-clause-all_within c).After-advance-2 h).1.1.1)) (earlier-small h 2 (omega arith))
 
-pub fluxes-requires : goal.fluxes-requires
-fluxes-requires c = record { winds_in_range = c.requires.winds_in_range; staged = before-fluxes (given (goal.at.fluxes-requires c).Start) (passed-3 (goal.at.fluxes-requires c).After-advance-3) }
+pub advance-requires-3-clause-all_within_2 : goal.advance-requires-3-clause-all_within_2
+advance-requires-3-clause-all_within_2 c =
+    let h = given (goal.at.advance-requires-3-clause-all_within_2 c).Start in
+    subst (AllWithin limit) (sym ((at-2 (goal.at.advance-requires-3-clause-all_within_2 c).After-advance-2 h).0)) (phi0-small h)
 
-after-fluxes : (c : After-fluxes) → Fluxed (given c.before.before.before.before.before.before.before.before.before.before.before.before.before.before.before) c.fluxes.new.work
-after-fluxes c = fluxed (given c.before.before.before.before.before.before.before.before.before.before.before.before.before.before.before) (passed-3 c.before.before.before) c.fluxes.ensures
+pub advance-requires-3-clause-all_within_3 : goal.advance-requires-3-clause-all_within_3
+advance-requires-3-clause-all_within_3 c =
+    let h = given (goal.at.advance-requires-3-clause-all_within_3 c).Start in
+    subst (AllWithin stage_size) (sym ((at-2 (goal.at.advance-requires-3-clause-all_within_3 c).After-advance-2 h).1.1.0)) (phi-small h 2 (omega arith))
 
-pub amounts-requires : goal.amounts-requires
-amounts-requires c = before-amounts (given (goal.at.amounts-requires c).Start) (after-fluxes (goal.at.amounts-requires c).After-fluxes)
+pub combine-requires-clause-all_within : goal.combine-requires-clause-all_within
+combine-requires-clause-all_within c =
+    let h = given (goal.at.combine-requires-clause-all_within c).Start in
+    subst (AllWithin stage_size) (sym ((at-2 (goal.at.combine-requires-clause-all_within c).After-advance-2 h).0)) (phi-small h 0 (omega arith))
 
-after-amounts : (c : After-amounts) → Weighed (given c.before.before.before.before.before.before.before.before.before.before.before.before.before.before.before.before.before.before) c.amounts.new.work
-after-amounts c = weighed (given c.before.before.before.before.before.before.before.before.before.before.before.before.before.before.before.before.before.before) (after-fluxes c.before.before.before) c.amounts.ensures
+pub combine-requires-clause-all_within_2 : goal.combine-requires-clause-all_within_2
+combine-requires-clause-all_within_2 c =
+    let h = given (goal.at.combine-requires-clause-all_within_2 c).Start in
+    subst (AllWithin stage_size) (sym ((at-2 (goal.at.combine-requires-clause-all_within_2 c).After-advance-2 h).1.0)) (phi-small h 1 (omega arith))
 
-pub limit-requires : goal.limit-requires
-limit-requires c = record { amounts = before-limit (given (goal.at.limit-requires c).Start) (after-amounts (goal.at.limit-requires c).After-amounts); shape_in_bounds = c.requires.shape_in_bounds }
+pub combine-requires-clause-all_within_3 : goal.combine-requires-clause-all_within_3
+combine-requires-clause-all_within_3 c =
+    let h = given (goal.at.combine-requires-clause-all_within_3 c).Start in
+    subst (AllWithin stage_size) (sym ((at-2 (goal.at.combine-requires-clause-all_within_3 c).After-advance-2 h).1.1.0)) (phi-small h 2 (omega arith))
 
-pub finish-requires : goal.finish-requires
-finish-requires c =
-    record { part_len = c.requires.part_len; finished = before_finish (given (goal.at.finish-requires c).Start) (after-amounts (goal.at.finish-requires c).After-amounts) c.requires.shape_in_bounds c.limit.ensures }
+-- ---- what comes of them
+pub fluxes-requires-clause-all_within : goal.fluxes-requires-clause-all_within
+fluxes-requires-clause-all_within c =
+    let h = given (goal.at.fluxes-requires-clause-all_within c).Start in
+    let q = at-2 (goal.at.fluxes-requires-clause-all_within c).After-advance-2 h in
+    let v = put_together h (length c.advance-3.new.sums) (omega (arith, c.split_at_mut-sums.ensures.front_len, c.elements-n.ensures)) q.0 q.1.0 q.1.1.0 c.combine.ensures in
+    subst (AllWithin (6 * stage_size)) (sym v) (together-small h)
 
-pub shape_of-report : goal.shape_of-report
-shape_of-report c = c.limit.ensures.long
+pub masses-requires-clause-part_len : goal.masses-requires-clause-part_len
+masses-requires-clause-part_len c = omega (arith, c.requires.part_len, elements-are c.args.grid.shape, c.split_at_mut-masses.ensures.front_len, c.elements-n.ensures)
 
-pub shape_of-work : goal.shape_of-work
-shape_of-work c =
-    c.amounts.ensures.long ∙ c.fluxes.ensures.long ∙ c.advance-3.ensures.long ∙ c.advance-2.ensures.long ∙ c.advance.ensures.long ∙ c.start.ensures.long
+pub masses-requires-clause-within_limit : goal.masses-requires-clause-within_limit
+masses-requires-clause-within_limit c =
+    let h = given (goal.at.masses-requires-clause-within_limit c).Start in
+    λ e l. mass-small h e (omega (arith, l, c.split_at_mut-masses.ensures.front_len, c.elements-n.ensures))
 
-pub returns : goal.returns
+pub outflows-requires-clause-all_within : goal.outflows-requires-clause-all_within
+outflows-requires-clause-all_within c =
+    let h = given (goal.at.outflows-requires-clause-all_within c).Start in
+    let q = at-2 (goal.at.outflows-requires-clause-all_within c).After-advance-2 h in
+    let v = put_together h (length c.advance-3.new.sums) (omega (arith, c.split_at_mut-sums.ensures.front_len, c.elements-n.ensures)) q.0 q.1.0 q.1.1.0 c.combine.ensures in
+    subst (AllWithin flux_size) (sym (fluxed h v c.fluxes.ensures)) (fluxes-small h)
+
+pub limit-requires-clause-amounts : goal.limit-requires-clause-amounts
+limit-requires-clause-amounts c =
+    let h = given (goal.at.limit-requires-clause-amounts c).Start in
+    let q = at-2 (goal.at.limit-requires-clause-amounts c).After-advance-2 h in
+    let v = put_together h (length c.advance-3.new.sums) (omega (arith, c.split_at_mut-sums.ensures.front_len, c.elements-n.ensures)) q.0 q.1.0 q.1.1.0 c.combine.ensures in
+    let f = fluxed h v c.fluxes.ensures in
+    let m = weighed h (c.split_at_mut-masses.ensures.front_len ∙ c.elements-n.ensures) c.masses.ensures in
+    amounts-of h f (drained h f c.outflows.ensures) m
+
+pub finish-requires-clause-all_within : goal.finish-requires-clause-all_within
+finish-requires-clause-all_within c =
+    let h = given (goal.at.finish-requires-clause-all_within c).Start in
+    subst (AllWithin tentative_size) (sym (at-3 (goal.at.finish-requires-clause-all_within c).After-advance-3 h)) (psi-small h)
+
+pub finish-requires-clause-balance : goal.finish-requires-clause-balance
+finish-requires-clause-balance c =
+    let h = given (goal.at.finish-requires-clause-balance c).Start in
+    let q = at-2 (goal.at.finish-requires-clause-balance c).After-advance-2 h in
+    let v = put_together h (length c.advance-3.new.sums) (omega (arith, c.split_at_mut-sums.ensures.front_len, c.elements-n.ensures)) q.0 q.1.0 q.1.1.0 c.combine.ensures in
+    let f = fluxed h v c.fluxes.ensures in
+    let m = weighed h (c.split_at_mut-masses.ensures.front_len ∙ c.elements-n.ensures) c.masses.ensures in
+    let r = reported h f (drained h f c.outflows.ensures) m c.limit.ensures in
+    balance-of h m r
+
+pub returns-clause-part_after : goal.returns-clause-part_after
 unfolding tracer_step
-returns c =
-    let wide = c.requires.shape_in_bounds in
-    record { part_after = c.finish.ensures ∙ all_closed (given (goal.at.returns c).Start) (after-amounts (goal.at.returns c).After-amounts) wide c.limit.ensures; report_after = reported (given (goal.at.returns c).Start) (after-amounts (goal.at.returns c).After-amounts) wide c.limit.ensures }
+returns-clause-part_after c =
+    let h = given (goal.at.returns-clause-part_after c).Start in
+    let q = at-2 (goal.at.returns-clause-part_after c).After-advance-2 h in
+    let v = put_together h (length c.advance-3.new.sums) (omega (arith, c.split_at_mut-sums.ensures.front_len, c.elements-n.ensures)) q.0 q.1.0 q.1.1.0 c.combine.ensures in
+    let f = fluxed h v c.fluxes.ensures in
+    let m = weighed h (c.split_at_mut-masses.ensures.front_len ∙ c.elements-n.ensures) c.masses.ensures in
+    let r = reported h f (drained h f c.outflows.ensures) m c.limit.ensures in
+    all_closed h (at-3 (goal.at.returns-clause-part_after c).After-advance-3 h) m r c.finish.ensures
+
+pub returns-clause-report_after : goal.returns-clause-report_after
+unfolding tracer_step
+returns-clause-report_after c =
+    let h = given (goal.at.returns-clause-report_after c).Start in
+    let q = at-2 (goal.at.returns-clause-report_after c).After-advance-2 h in
+    let v = put_together h (length c.advance-3.new.sums) (omega (arith, c.split_at_mut-sums.ensures.front_len, c.elements-n.ensures)) q.0 q.1.0 q.1.1.0 c.combine.ensures in
+    let f = fluxed h v c.fluxes.ensures in
+    let m = weighed h (c.split_at_mut-masses.ensures.front_len ∙ c.elements-n.ensures) c.masses.ensures in
+    reported h f (drained h f c.outflows.ensures) m c.limit.ensures

@@ -1,2 +1,0 @@
--- Where the numbers of a step stand in work.
-pub mod Sections

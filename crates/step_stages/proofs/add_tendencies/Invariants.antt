@@ -1,0 +1,9 @@
+use Rattle.whole.specs.Table.{table}
+use Rattle.field_elements.proofs.FillLaws.{BlocksFilled}
+use Rattle.rules.specs.Field.{elements}
+use Rattle.rules.specs.Calls.{wind_at}
+use Rattle.step_stages.specs.Advance.{new_sums}
+use Rattle.step_stages.proofs.add_tendencies.Given as goal
+
+abbrev pub invariant-loop-index : goal.invariant-loop-index
+invariant-loop-index l = let g = l.fn.grid.shape in BlocksFilled 9 (λ e. table 9 (new_sums g (wind_at l.wind) l.fn.stage l.initial.sums l.from e)) l.initial.sums (elements g) l.index l.sums

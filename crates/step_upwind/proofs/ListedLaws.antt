@@ -1,0 +1,27 @@
+-- A stage's numbers as a list: what stands where, when two lists are the same, and how large their numbers are.
+use mathlib.Core.Path.{◌≡◌, sym, ap, ap₂, subst, ◌∙◌}
+use mathlib.Core.List.{List}
+use Prim.Native.Nat.{ℕ, ◌+◌, ◌*◌, ◌/◌, ◌%◌, ◌<◌}
+use native.Mathlib.Nat.{div-add-mod'}
+use native.Mathlib.Omega.{arith}
+use lib.Arith.{digits_div, digits_mod}
+use lib.IntN.{ℤ, pos}
+use Rattle.whole.specs.Bound.{Within, AllWithin}
+use Rattle.whole.specs.Table.{table, at}
+use Rattle.whole.proofs.BoundLaws.{within-le, within-pos}
+use Rattle.whole.proofs.TableLaws.{get_d-table, table-cong, table-all}
+use Rattle.step_upwind.specs.Upwind.{as_stage, listed}
+
+-- number i of a list is number i % 9 of element i / 9
+pub flat : (l : List ℤ) (i : ℕ) → as_stage l (i / 9) (i % 9) ≡ at l i
+flat l i = ap (at l) (div-add-mod' i 9)
+
+module _ (n : ℕ) where
+  pub listed-at : (φ : ℕ → ℕ → ℤ) (e k : ℕ) → e < n → k < 9 → as_stage (listed (n * 9) φ) e k ≡ φ e k
+  listed-at φ e k le lk = get_d-table (n * 9) (λ i. φ (i / 9) (i % 9)) (e * 9 + k) (pos 0) (omega arith) ∙ ap₂ φ (digits_div e lk) (digits_mod e lk)
+
+  pub listed-cong : (φ φ' : ℕ → ℕ → ℤ) → ((e k : ℕ) → e < n → k < 9 → φ e k ≡ φ' e k) → listed (n * 9) φ ≡ listed (n * 9) φ'
+  listed-cong φ φ' h = table-cong (n * 9) _ _ (λ i l. h (i / 9) (i % 9) (omega arith) (omega arith))
+
+  pub listed-within : {m : ℕ} (φ : ℕ → ℕ → ℤ) → ((e k : ℕ) → e < n → k < 9 → Within m (φ e k)) → AllWithin m (listed (n * 9) φ)
+  listed-within {m} φ h = record { all = table-all (Within m) (n * 9) (λ i. φ (i / 9) (i % 9)) (pos 0) (within-le (within-pos 0) (omega arith)) (λ i l. h (i / 9) (i % 9) (omega arith) (omega arith)) }
