@@ -13,7 +13,7 @@ use lib.Dec.{T, ltb, leb, leb→le, ltb→lt}
 use lib.IntN.{ℤ, pos, negsuc, neg_ℤ, nat_abs, ◌+ℤ◌, ◌*ℤ◌}
 use lib.ListN.{get_or}
 use lib.Signed.{mag, quot_z, rem_z, lt_z, le_z}
-use mir.Syntax.{Width, w16, w32, w64}
+use mir.Syntax.{Width, w32, w64}
 use mir.Val.{SFits, Fits, bits, hbits, to_z, of_z}
 use mir.Facts.{to_z-of_z, and_yes, to_z_pos}
 use Rattle.whole.specs.Bound.{Within, Are, AllWithin, floor_div}
@@ -91,9 +91,6 @@ s-parity w z = record { size = 1; small = subst (Within 1) (sym (low_bit w z)) (
 -- what a call gave, or a list whose numbers are bounded holds
 abbrev pub s_call : (r z : ℤ) (n : ℕ) → Are n r z → Sized r
 s_call r z n p = record { size = n; small = subst (λ (x : ℤ). Within n x) (sym p.same) p.bound }
-
-abbrev pub s-eq : (r s : ℤ) → r ≡ s → Sized s → Sized r
-s-eq r s e p = record { size = p.size; small = subst (λ (x : ℤ). Within p.size x) (sym e) p.small }
 
 abbrev pub s-at : (l : List ℤ) (i : ℕ) (n : ℕ) → AllWithin n l → Sized (get_or l i (pos 0))
 s-at l i n h = record { size = n; small = h.all i }
@@ -179,25 +176,13 @@ e-parity w r z p = record {
 abbrev pub e-call : (r z : ℤ) (n : ℕ) → Are n r z → Exact r z
 e-call r z n p = record { size = n; small = subst (λ (x : ℤ). Within n x) (sym p.same) p.bound; good = true; same = λ t. p.same }
 
-abbrev pub e-eq : (r s z : ℤ) → r ≡ s → Exact s z → Exact r z
-e-eq r s z e p = record { size = p.size; small = subst (λ (x : ℤ). Within p.size x) (sym e) p.small; good = p.good; same = λ t. e ∙ p.same t }
-
 abbrev pub e-at : (l : List ℤ) (i : ℕ) (n : ℕ) → AllWithin n l → Exact (get_or l i (pos 0)) (get_or l i (pos 0))
 e-at l i n h = record { size = n; small = h.all i; good = true; same = λ t. refl }
 
 abbrev pub e-table : (x : ℤ) (l : List ℤ) (i : ℕ) → Exact (get_or (x ∷ l) i (pos 0)) (get_or (x ∷ l) i (pos 0))
 e-table x l i = record { size = peak (x ∷ l); small = record { within = peak-at (x ∷ l) i }; good = true; same = λ t. refl }
 
--- a value that its own type holds, read back; an unsigned number, cast
-abbrev pub e-own : (w : Width) (z : ℤ) → mag z < 2 ^ hbits w → Exact (to_z w (of_z w z)) z
-e-own w z h = record { size = 2 ^ hbits w; small = within-back w z (within-mag z (2 ^ hbits w) h); good = true; same = λ t. to_z-of_z (record { sfits = h }) }
-
-abbrev pub e-i16 : (z : ℤ) → mag z < 2 ^ 15 → Exact (to_z w16 (of_z w16 z)) z
-e-i16 z h = e-own w16 z h
-
-abbrev pub e-i32 : (z : ℤ) → mag z < 2 ^ 31 → Exact (to_z w32 (of_z w32 z)) z
-e-i32 z h = e-own w32 z h
-
+-- an unsigned number, cast
 pub u32-back : (n : ℕ) → Fits w32 n → to_z w64 n ≡ pos n
 u32-back n f = to_z_pos w64 (omega (arith, f.fits))
 
@@ -232,9 +217,3 @@ pub ruleset exacts-wide = (exacts, e-quot, e-rem, e-u32, t-lt, t-le)
 pub ruleset sizes-parity = (sizes, s-parity)
 
 pub ruleset exacts-parity = (exacts, e-parity)
-
-pub ruleset sizes-eq = (sizes, s-eq)
-
-pub ruleset exacts-eq = (exacts, e-eq)
-
-pub ruleset exacts-own = (exacts, e-i16, e-i32)
