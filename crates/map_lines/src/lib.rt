@@ -23,7 +23,7 @@ const FIRST: usize = 3;
 
 const LINE: usize = FIRST + COLUMNS * WIDTH + 1;
 
-// A line of a block: its first one, or that of row j.
+// A line of a block: its first one, or that of row j. Two lines by name, as the definition has them; an `Option` would only drop the names.
 #[derive(Clone, Copy)]
 pub(crate) enum BlockLine {
     Header,

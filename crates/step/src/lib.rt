@@ -19,7 +19,8 @@ fn work_needed(grid: Grid) -> usize
     64 * grid.elements()
 }
 
-// Whether buffers of these lengths are long enough.
+// Whether buffers of these lengths are long enough. A function of its own, as a file's writing has one: one list of lengths for both would be no
+// plainer.
 fn lent_enough(field: usize, wind: usize, report: usize, work: usize, grid: Grid) -> bool
     ensures { result ≡ (leb (field_length quadratic grid.shape) field && (leb (faces grid.shape) wind && (leb (faces grid.shape) report && leb (work_needed grid.shape) work))) }
 {

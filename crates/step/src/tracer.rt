@@ -36,7 +36,8 @@ fn finish(part: &mut [u32], psi: &[i64], masses: &[i64], report: &[i32], grid: G
     ensures { part.new ≡ blocks (elements grid.shape) (new_element grid.shape psi.now masses.now report.now) }
 {
     let n = grid.elements();
-    // By number: of the parts that `chunks_exact_mut` has lent a proof knows only their lengths.
+    // By number, which gives the element its neighbours and its place in both slices: of the parts that `chunks_exact_mut` has lent, a proof
+    // knows only how many they are.
     for index in 0..n {
         let goal = target(masses, report, Element { grid, index });
         let start = index * NUMBERS;
@@ -71,7 +72,7 @@ pub(crate) fn step(part: &mut [u32], wind: &[i16], report: &mut [i32], work: &mu
     step_stages::advance(phi1, sums, phi0, phi0, wind, grid, 0);
     step_stages::advance(phi2, sums, phi0, phi1, wind, grid, 1);
     step_stages::advance(psi, sums, phi0, phi2, wind, grid, 2);
-    step_fluxes::combine(sums, phi0, phi1, phi2); // in the place of the sums, which have done their work
+    step_fluxes::combine(sums, phi0, phi1, phi2); // over the sums, which nothing reads any more
     step_fluxes::fluxes(fluxes, sums, wind, grid);
     step_correction::masses(masses, part);
     step_correction::outflows(outflows, fluxes, grid);

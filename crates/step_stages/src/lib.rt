@@ -37,7 +37,8 @@ pub fn start(stage: &mut [i64], part: &[u32], grid: Grid)
     ensures { stage.new ≡ listed (stage_length grid.shape) (stage0 quadratic part.now) }
 {
     let n = grid.elements();
-    // By number, here and below: of the parts that `chunks_exact_mut` has lent a proof knows only their lengths.
+    // By number, here and below, since it is the element's place in both slices: of the parts that `chunks_exact_mut` has lent, a proof knows
+    // only how many they are.
     for index in 0..n {
         let to = index * NODES;
         let to_end = to + NODES;
@@ -71,15 +72,17 @@ fn add_tendencies(sums: &mut [i64], from: &[i64], wind: &[i16], grid: Grid, stag
     ensures { sums.new ≡ listed (stage_length grid.shape) (new_sums grid.shape (wind_at wind.now) stage sums.old from.now) }
 {
     let n = grid.elements();
+    let times = FACTORS[stage];
     for index in 0..n {
         let t = step_upwind::tendencies(from, wind, Element { grid, index });
         let start = index * NODES;
         let end = start + NODES;
-        add(&mut sums[start..end], &t, FACTORS[stage]);
+        add(&mut sums[start..end], &t, times);
     }
 }
 
-// A sum of tendencies by its stage's divisor, rounded down.
+// A sum of tendencies by its stage's divisor, rounded down. By the stage's number, as the definition has it (`divisor`): a closure for each
+// stage would want its divisor said once more, in a contract of its own.
 fn divided(stage: usize, sum: i64) -> i64
     requires stage_bound { stage < 3 }
     requires within { Within sum_size sum }

@@ -28,7 +28,7 @@ pub fn grid_line(text: &mut Text, shape: Shape)
     text.newline();
 }
 
-// The line of a refusal: its number.
+// The line of a refusal: its number, which is all that the line prints.
 pub fn refused_line(text: &mut Text, n: u8)
     requires { HasRoom 29 text.old }
     ensures { Adds 29 (refused_line n) text.old text.new }

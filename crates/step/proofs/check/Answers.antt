@@ -1,4 +1,4 @@
--- The step's checks: 2, 4 and 5 by their tests, 6 and 7 as the reading of the total meets them.
+-- The step's checks: 4 and 5 by their tests, 6 and 7 as the reading of the total meets them.
 use mathlib.Core.Path.{◌≡◌, sym, ap, ◌∙◌}
 use mathlib.Core.Bool.{true}
 use lib.Dec.{T, leb→le, leb}
