@@ -79,8 +79,7 @@ fn lines(
     ensures { LinesOrRefused (printed steps file.now field.old wind.old) text.old text.new result }
 {
     let shape = program_file::read(file, field, wind)?;
-    let grid = Grid::try_from(shape)?;
-    tracers(text, field, wind, report, work, grid)
+    tracers(text, field, wind, report, work, Grid { shape })
 }
 
 // The whole text at the front of the buffer: the lines, or the refusal alone.

@@ -14,7 +14,7 @@ use field_layout::Grid;
 use program_file::{ELEMENTS, SMOKES};
 use rules::element::NUMBERS;
 
-// One tracer's page at the front of the buffer, and its bytes. No map of a sound field is refused, so that the second case is not met.
+// One tracer's page at the front of the buffer, and its bytes.
 fn page(out: &mut [u8], field: &[u32], grid: Grid, tracer: usize) -> usize
     requires sound_field { SoundField grid.shape field.now }
     requires tracer_lt_tracers { tracer < grid.shape.tracers }
@@ -23,7 +23,7 @@ fn page(out: &mut [u8], field: &[u32], grid: Grid, tracer: usize) -> usize
 {
     match map::map(out, field, grid.shape, tracer) {
         Ok(n) => n as usize, // by `as`: std has no `From` from u64 to usize, and a `try_from` would add an unwrap that can never fail
-        Err(_) => 0,
+        Err(_) => unreachable!(), // the map of a sound field is never refused
     }
 }
 

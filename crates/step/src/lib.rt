@@ -9,6 +9,7 @@ ghost use Rattle.rules.specs.Calls.{step, lengths_lent, call, StepGives};
 
 use field_layout::Grid;
 use rules::{Refusal, Shape};
+use step_upwind::Winds;
 
 mod tracer; // tracer.rt: the step on a tracer's part
 
@@ -68,10 +69,9 @@ pub fn step(
     let needed = work_needed(grid);
     tracer::step(
         &mut field[start..end],
-        wind,
+        &Winds { wind, grid },
         &mut report[..faces],
         &mut work[..needed],
-        grid,
     );
     Ok(())
 }

@@ -8,12 +8,13 @@ ghost use Rattle.rules.specs.Correction.{target};
 ghost use Rattle.rules.specs.Step.{tracer_step};
 ghost use Rattle.rules.specs.Calls.{wind_at};
 ghost use Rattle.rules.specs.Sizes.{target_size, tentative_size};
-ghost use Rattle.step_upwind.specs.Upwind.{stage_length, WindsInRange};
+ghost use Rattle.step_upwind.specs.Upwind.{stage_length};
 ghost use Rattle.step.specs.Finish.{Balance, mass_of, new_element};
 
 use field_layout::Grid;
 use rules::element::{NODES, NUMBERS};
 use step_grid::Element;
+use step_upwind::Winds;
 
 // An element's target: its mass, less what leaves by its east and north face, and what comes by its west and south face.
 fn target(masses: &[i64], report: &[i32], element: Element) -> u64
@@ -48,15 +49,15 @@ fn finish(part: &mut [u32], psi: &[i64], masses: &[i64], report: &[i32], grid: G
 
 // The step of a tracer's part, and its report. What it works with stands in sections of `work`, one after the other: the stages, the sums
 // of tendencies, and what the faces and the elements have.
-pub(crate) fn step(part: &mut [u32], wind: &[i16], report: &mut [i32], work: &mut [i64], grid: Grid)
-    requires part_len { length part.old ≡ elements_length quadratic grid.shape }
-    requires part_bound { total quadratic grid.shape part.old ≤ limit }
-    requires winds_in_range { WindsInRange grid.shape wind.now }
-    requires report_len { length report.old ≡ faces grid.shape }
-    requires work_len { work_needed grid.shape ≤ length work.old }
-    ensures part_after { part.new ≡ (tracer_step quadratic grid.shape (wind_at wind.now) part.old).part }
-    ensures report_after { report.new ≡ (tracer_step quadratic grid.shape (wind_at wind.now) part.old).report }
+pub(crate) fn step(part: &mut [u32], winds: &Winds, report: &mut [i32], work: &mut [i64])
+    requires part_len { length part.old ≡ elements_length quadratic winds.now.grid.shape }
+    requires part_bound { total quadratic winds.now.grid.shape part.old ≤ limit }
+    requires report_len { length report.old ≡ faces winds.now.grid.shape }
+    requires work_len { work_needed winds.now.grid.shape ≤ length work.old }
+    ensures part_after { part.new ≡ (tracer_step quadratic winds.now.grid.shape (wind_at winds.now.wind.now) part.old).part }
+    ensures report_after { report.new ≡ (tracer_step quadratic winds.now.grid.shape (wind_at winds.now.wind.now) part.old).report }
 {
+    let grid = winds.grid;
     let n = grid.elements();
     let nodes = n * NODES;
     let (phi0, rest) = work.split_at_mut(nodes);
@@ -69,11 +70,11 @@ pub(crate) fn step(part: &mut [u32], wind: &[i16], report: &mut [i32], work: &mu
     let (outflows, _) = rest.split_at_mut(n);
     step_stages::start(phi0, part, grid);
     sums.fill(0);
-    step_stages::advance(phi1, sums, phi0, phi0, wind, grid, 0);
-    step_stages::advance(phi2, sums, phi0, phi1, wind, grid, 1);
-    step_stages::advance(psi, sums, phi0, phi2, wind, grid, 2);
+    step_stages::advance(phi1, sums, phi0, phi0, winds, 0);
+    step_stages::advance(phi2, sums, phi0, phi1, winds, 1);
+    step_stages::advance(psi, sums, phi0, phi2, winds, 2);
     step_fluxes::combine(sums, phi0, phi1, phi2); // over the sums, which nothing reads any more
-    step_fluxes::fluxes(fluxes, sums, wind, grid);
+    step_fluxes::fluxes(fluxes, sums, winds);
     step_correction::masses(masses, part);
     step_correction::outflows(outflows, fluxes, grid);
     step_correction::limit(report, fluxes, outflows, masses, grid);

@@ -10,13 +10,12 @@ ghost use Rattle.rules.specs.Grid.{looks_east};
 ghost use Rattle.rules.specs.Stages.{flux_of};
 ghost use Rattle.rules.specs.Calls.{wind_at};
 ghost use Rattle.rules.specs.Sizes.{stage_size, face_sum_size, flux_size};
-ghost use Rattle.step_upwind.specs.Upwind.{stage_length, WindsInRange};
+ghost use Rattle.step_upwind.specs.Upwind.{stage_length};
 ghost use Rattle.step_fluxes.specs.Face.{combined, line_sum, face_flux};
 
-use field_layout::Grid;
 use rules::element::{SIDE, line_weight};
 use step_grid::Face;
-use step_upwind::{EAST_LINE, NORTH_LINE};
+use step_upwind::{EAST_LINE, NORTH_LINE, Winds};
 
 // The stages' values as a face sums them, at every node. All three have the same donors, so that their sum has its upwind values, too.
 pub fn combine(values: &mut [i64], first: &[i64], second: &[i64], third: &[i64])
@@ -73,13 +72,17 @@ fn line(face: Face) -> (usize, usize)
 }
 
 // The flux of a face.
-fn face_flux(values: &[i64], wind: &[i16], face: Face) -> i64
-    requires values_len { length values.now ≡ stage_length face.grid.shape }
+fn face_flux(values: &[i64], winds: &Winds, index: usize) -> i64
+    requires values_len { length values.now ≡ stage_length winds.now.grid.shape }
     requires all_within { AllWithin (6 * stage_size) values.now }
-    requires winds_in_range { WindsInRange face.grid.shape wind.now }
-    ensures { Are flux_size result (face_flux face.grid.shape (wind_at wind.now) values.now face.index) }
+    requires index_bound { index < faces winds.now.grid.shape }
+    ensures { Are flux_size result (face_flux winds.now.grid.shape (wind_at winds.now.wind.now) values.now index) }
 {
-    let c = i64::from(wind[face.index]);
+    let face = Face {
+        grid: winds.grid,
+        index,
+    };
+    let c = winds.at_face(index);
     let (behind, ahead) = face.ends();
     let (last, stride) = line(face);
     let start = step_upwind::upwind_start(c, behind, ahead, last);
@@ -87,14 +90,13 @@ fn face_flux(values: &[i64], wind: &[i16], face: Face) -> i64
 }
 
 // The fluxes of all faces.
-pub fn fluxes(fluxes: &mut [i64], values: &[i64], wind: &[i16], grid: Grid)
-    requires fluxes_len { length fluxes.old ≡ faces grid.shape }
-    requires values_len { length values.now ≡ stage_length grid.shape }
+pub fn fluxes(fluxes: &mut [i64], values: &[i64], winds: &Winds)
+    requires fluxes_len { length fluxes.old ≡ faces winds.now.grid.shape }
+    requires values_len { length values.now ≡ stage_length winds.now.grid.shape }
     requires all_within { AllWithin (6 * stage_size) values.now }
-    requires winds_in_range { WindsInRange grid.shape wind.now }
-    ensures { fluxes.new ≡ table (faces grid.shape) (face_flux grid.shape (wind_at wind.now) values.now) }
+    ensures { fluxes.new ≡ table (faces winds.now.grid.shape) (face_flux winds.now.grid.shape (wind_at winds.now.wind.now) values.now) }
 {
     for (index, flux) in fluxes.iter_mut().enumerate() {
-        *flux = face_flux(values, wind, Face { grid, index });
+        *flux = face_flux(values, winds, index);
     }
 }

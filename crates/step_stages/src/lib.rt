@@ -9,12 +9,12 @@ ghost use Rattle.rules.specs.Field.{quadratic, elements_length, limit};
 ghost use Rattle.rules.specs.Sizes.{tendency_size, sum_size, earlier_sum_size, stage_size};
 ghost use Rattle.rules.specs.Stages.{stage0};
 ghost use Rattle.rules.specs.Calls.{wind_at};
-ghost use Rattle.step_upwind.specs.Upwind.{stage_length, listed, WindsInRange};
+ghost use Rattle.step_upwind.specs.Upwind.{stage_length, listed};
 ghost use Rattle.step_stages.specs.Advance.{factor, divisor, new_value, new_sums, new_values};
 
 use field_layout::Grid;
 use rules::element::{NODES, NUMBERS};
-use step_grid::Element;
+use step_upwind::Winds;
 
 // How often a stage's tendency counts in the sum of tendencies.
 const FACTORS: [i64; 3] = [1, 1, 4];
@@ -62,19 +62,18 @@ fn add(sums: &mut [i64], t: &[i64; NODES], times: i64)
 }
 
 // The sums of all elements with the tendencies of a stage.
-fn add_tendencies(sums: &mut [i64], from: &[i64], wind: &[i16], grid: Grid, stage: usize)
+fn add_tendencies(sums: &mut [i64], from: &[i64], winds: &Winds, stage: usize)
     requires stage_bound { stage < 3 }
-    requires sums_len { length sums.old ≡ stage_length grid.shape }
+    requires sums_len { length sums.old ≡ stage_length winds.now.grid.shape }
     requires all_within { AllWithin earlier_sum_size sums.old }
-    requires from_len { length from.now ≡ stage_length grid.shape }
+    requires from_len { length from.now ≡ stage_length winds.now.grid.shape }
     requires all_within_2 { AllWithin stage_size from.now }
-    requires winds_in_range { WindsInRange grid.shape wind.now }
-    ensures { sums.new ≡ listed (stage_length grid.shape) (new_sums grid.shape (wind_at wind.now) stage sums.old from.now) }
+    ensures { sums.new ≡ listed (stage_length winds.now.grid.shape) (new_sums winds.now.grid.shape (wind_at winds.now.wind.now) stage sums.old from.now) }
 {
-    let n = grid.elements();
+    let n = winds.grid.elements();
     let times = FACTORS[stage];
     for index in 0..n {
-        let t = step_upwind::tendencies(from, wind, Element { grid, index });
+        let t = step_upwind::tendencies(from, winds, index);
         let start = index * NODES;
         let end = start + NODES;
         add(&mut sums[start..end], &t, times);
@@ -117,22 +116,20 @@ pub fn advance(
     sums: &mut [i64],
     first: &[i64],
     from: &[i64],
-    wind: &[i16],
-    grid: Grid,
+    winds: &Winds,
     stage: usize,
 )
     requires stage_bound { stage < 3 }
-    requires next_len { length next.old ≡ stage_length grid.shape }
-    requires sums_len { length sums.old ≡ stage_length grid.shape }
+    requires next_len { length next.old ≡ stage_length winds.now.grid.shape }
+    requires sums_len { length sums.old ≡ stage_length winds.now.grid.shape }
     requires all_within { AllWithin earlier_sum_size sums.old }
-    requires first_len { length first.now ≡ stage_length grid.shape }
+    requires first_len { length first.now ≡ stage_length winds.now.grid.shape }
     requires all_within_2 { AllWithin limit first.now }
-    requires from_len { length from.now ≡ stage_length grid.shape }
+    requires from_len { length from.now ≡ stage_length winds.now.grid.shape }
     requires all_within_3 { AllWithin stage_size from.now }
-    requires winds_in_range { WindsInRange grid.shape wind.now }
-    ensures sums_after { sums.new ≡ listed (stage_length grid.shape) (new_sums grid.shape (wind_at wind.now) stage sums.old from.now) }
-    ensures next_after { next.new ≡ listed (stage_length grid.shape) (new_values grid.shape (wind_at wind.now) stage first.now sums.old from.now) }
+    ensures sums_after { sums.new ≡ listed (stage_length winds.now.grid.shape) (new_sums winds.now.grid.shape (wind_at winds.now.wind.now) stage sums.old from.now) }
+    ensures next_after { next.new ≡ listed (stage_length winds.now.grid.shape) (new_values winds.now.grid.shape (wind_at winds.now.wind.now) stage first.now sums.old from.now) }
 {
-    add_tendencies(sums, from, wind, grid, stage);
+    add_tendencies(sums, from, winds, stage);
     set_values(next, first, sums, stage);
 }

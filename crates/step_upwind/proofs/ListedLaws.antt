@@ -1,5 +1,5 @@
 -- A stage's numbers as a list: what stands where, when two lists are the same, and how large their numbers are.
-use mathlib.Core.Path.{◌≡◌, sym, ap, ap₂, subst, ◌∙◌}
+use mathlib.Core.Path.{◌≡◌, ap, ap₂, ◌∙◌}
 use mathlib.Core.List.{List}
 use Prim.Native.Nat.{ℕ, ◌+◌, ◌*◌, ◌/◌, ◌%◌, ◌<◌}
 use native.Mathlib.Nat.{div-add-mod'}
@@ -7,7 +7,7 @@ use native.Mathlib.Omega.{arith}
 use lib.Arith.{digits_div, digits_mod}
 use lib.IntN.{ℤ, pos}
 use Rattle.whole.specs.Bound.{Within, AllWithin}
-use Rattle.whole.specs.Table.{table, at}
+use Rattle.whole.specs.Table.{at}
 use Rattle.whole.proofs.BoundLaws.{within-le, within-pos}
 use Rattle.whole.proofs.TableLaws.{get_d-table, table-cong, table-all}
 use Rattle.step_upwind.specs.Upwind.{as_stage, listed}

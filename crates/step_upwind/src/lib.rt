@@ -5,12 +5,13 @@
 ghost use Rattle.std.specs.Prelude.{◌≡◌, ◌+◌, ◌≤◌, ◌<◌, length};
 ghost use Rattle.whole.specs.Bound.{Are, AllWithin};
 ghost use Rattle.whole.specs.Table.{table, at};
-ghost use Rattle.rules.specs.Field.{quadratic};
+ghost use Rattle.rules.specs.Field.{quadratic, elements, faces};
 ghost use Rattle.rules.specs.Sizes.{most_elements, stage_size};
 ghost use Rattle.rules.specs.Stages.{tendency};
 ghost use Rattle.rules.specs.Calls.{wind_at};
 ghost use Rattle.step_upwind.specs.Upwind.{stage_length, as_stage, WindsInRange, side_winds, sign, upwind_start, side_start, upwind_place, Reached};
 
+use field_layout::Grid;
 use rules::element::{NODES, SIDE};
 use std::array;
 use step_grid::Element;
@@ -21,18 +22,40 @@ pub const EAST_LINE: usize = SIDE - 1;
 
 pub const NORTH_LINE: usize = NODES - SIDE;
 
-// The winds of an element's west, east, south and north face.
-fn side_winds(wind: &[i16], element: Element) -> [i64; 4]
-    requires { WindsInRange element.grid.shape wind.now }
-    ensures { result ≡ side_winds element.grid.shape (wind_at wind.now) element.index }
-{
-    let [west, east, south, north] = element.sides();
-    [
-        i64::from(wind[west]),
-        i64::from(wind[east]),
-        i64::from(wind[south]),
-        i64::from(wind[north]),
-    ]
+// The winds of a grid's faces, each in its range.
+#[derive(Clone, Copy)]
+pub struct Winds<'a> {
+    pub wind: &'a [i16],
+    pub grid: Grid,
+    ghost in_range: { WindsInRange grid.shape wind.now },
+}
+
+impl Winds<'_> {
+    // The wind of a face.
+    pub fn at_face(&self, face: usize) -> i64
+        requires { face < faces self.now.grid.shape }
+        ensures { Are 1024 result (wind_at self.now.wind.now face) }
+    {
+        i64::from(self.wind[face])
+    }
+
+    // The winds of an element's west, east, south and north face.
+    fn at_sides(&self, index: usize) -> [i64; 4]
+        requires { index < elements self.now.grid.shape }
+        ensures { result ≡ side_winds self.now.grid.shape (wind_at self.now.wind.now) index }
+    {
+        let element = Element {
+            grid: self.grid,
+            index,
+        };
+        let [west, east, south, north] = element.sides();
+        [
+            i64::from(self.wind[west]),
+            i64::from(self.wind[east]),
+            i64::from(self.wind[south]),
+            i64::from(self.wind[north]),
+        ]
+    }
 }
 
 // 0 for a wind that is not negative, else -1.
@@ -102,15 +125,19 @@ fn values(phi: &[i64], start: usize) -> [i64; NODES]
 }
 
 // The tendencies of an element of a stage.
-pub fn tendencies(phi: &[i64], wind: &[i16], element: Element) -> [i64; NODES]
-    requires phi_len { length phi.now ≡ stage_length element.grid.shape }
+pub fn tendencies(phi: &[i64], winds: &Winds, index: usize) -> [i64; NODES]
+    requires phi_len { length phi.now ≡ stage_length winds.now.grid.shape }
     requires all_within { AllWithin stage_size phi.now }
-    requires winds_in_range { WindsInRange element.grid.shape wind.now }
-    ensures { result ≡ table 9 (tendency quadratic element.grid.shape (wind_at wind.now) (as_stage phi.now) element.index) }
+    requires index_bound { index < elements winds.now.grid.shape }
+    ensures { result ≡ table 9 (tendency quadratic winds.now.grid.shape (wind_at winds.now.wind.now) (as_stage phi.now) index) }
 {
-    let c = side_winds(wind, element);
+    let element = Element {
+        grid: winds.grid,
+        index,
+    };
+    let c = winds.at_sides(index);
     let s = starts(&c, element);
     let u = upwind_values(phi, &s);
-    let v = values(phi, element.index * NODES);
+    let v = values(phi, index * NODES);
     step_tendency::tendencies(&v, &c, &u)
 }

@@ -11,7 +11,7 @@ ghost use Rattle.rules.specs.Program.{way_word, grid_line, face_line, total_line
 ghost use Rattle.text.specs.Adds.{Adds, HasRoom};
 
 use field_layout::Grid;
-use rules::{Shape, Way};
+use rules::{Face, Shape, Way};
 use text::Text;
 
 // The line of the grid: nx, ny and how many tracers.
@@ -92,11 +92,12 @@ impl TracerReport<'_> {
         requires { j < self.now.grid.shape.ny }
         ensures { result ≡ face_index self.now.grid.shape way 0 j }
     {
-        let e = j * self.grid.shape.nx;
-        match way {
-            Way::East => e,
-            Way::North => self.grid.elements() + e,
-        }
+        self.grid.face_at(Face {
+            way,
+            i: 0,
+            j,
+            wind: 0, // a place does not depend on it
+        })
     }
 
     // The faces of row j that look one way.

@@ -1,10 +1,11 @@
 -- The lines: what the reading of the file refuses is passed on, and else it is what the tracers' lines are.
-use mathlib.Core.Path.{◌≡◌, sym, ap, ◌∙◌}
+use mathlib.Core.Path.{◌≡◌, sym}
 use Prim.Native.Nat.{◌≤◌}
 use native.Mathlib.Omega.{arith}
 use Rattle.rules.specs.Answers.{accepted}
-use Rattle.rules.specs.Field.{quadratic, faces}
-use Rattle.rules.specs.Program.{file_reply, steps, text_of}
+use Rattle.rules.specs.Field.{quadratic, faces, Admitted}
+use Rattle.rules.proofs.ShapeLaws.{ranges}
+use Rattle.rules.specs.Program.{file_reply, steps}
 use Rattle.file_layout.proofs.ReplyLaws.{Readable, read-shown}
 use Rattle.program_file.proofs.PrintedLaws.{file-read, refused-printed, text-printed}
 use Rattle.output.proofs.TextLaws.{text-fits, lines_of, passed-line}
@@ -28,19 +29,21 @@ shown c =
 few : (c : In_ok-shape) → faces c.in_ok-shape.shape ≤ 256
 few c = omega (arith, (shown c).wind-room, c.requires.wind_len)
 
-pub returns-in_err-grid : goal.returns-in_err-grid
-returns-in_err-grid c = absurd (rw c.in_err-grid.ensures.0 at (shown (goal.at.returns-in_err-grid c).In_ok-shape).ranges)
+admits : (c : In_ok-shape) → Admitted c.in_ok-shape.shape
+admits c = ranges c.in_ok-shape.shape (shown c).ranges
+
+pub invariant_of-tracers : goal.invariant_of-tracers
+invariant_of-tracers c = record { admitted = admits (goal.at.invariant_of-tracers c).In_ok-shape }
 
 pub tracers-requires : goal.tracers-requires
 tracers-requires c =
-    let g = c.in_ok-grid.grid in
-    let f : faces g.shape ≤ 256 = omega (arith, few (goal.at.tracers-requires c).In_ok-shape, ap faces c.in_ok-grid.ensures.1) in
-    record { report_len = c.requires.report_len; work_len = c.requires.work_len; shape_bound = f; room = omega (arith, text-fits g.shape g.admitted f, c.requires.room) }
+    let p = (goal.at.tracers-requires c).In_ok-shape in
+    record { report_len = c.requires.report_len; work_len = c.requires.work_len; shape_bound = few p; room = omega (arith, text-fits c.in_ok-shape.shape (admits p) (few p), c.requires.room) }
 
 pub returns : goal.returns
 returns c =
     let a = c.args in
-    let g = c.in_ok-grid.grid in
-    let f : faces g.shape ≤ 256 = omega (arith, few (goal.at.returns c).In_ok-shape, ap faces c.in_ok-grid.ensures.1) in
-    let e = text-printed a.file.now a.field.now a.wind.now steps c.in_ok-shape.shape _ _ (found (goal.at.returns c).In_ok-shape) c.read.ensures.1.0 c.read.ensures.1.1 in
-    lines_of g.shape _ _ _ _ _ (text-fits g.shape g.admitted f) (ap (λ k. text_of (steps k c.read.new.field c.read.new.wind)) c.in_ok-grid.ensures.1 ∙ e) c.tracers.result c.tracers.ensures
+    let g = c.in_ok-shape.shape in
+    let p = (goal.at.returns c).In_ok-shape in
+    let e = text-printed a.file.now a.field.now a.wind.now steps g _ _ (found p) c.read.ensures.1.0 c.read.ensures.1.1 in
+    lines_of g _ _ _ _ _ (text-fits g (admits p) (few p)) e c.tracers.result c.tracers.ensures

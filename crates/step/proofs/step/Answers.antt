@@ -78,7 +78,6 @@ step-requires c =
     let lent = lent_is (goal.at.step-requires c).After-elements_length in record {
       part_len = ap length lent ∙ length-part quadratic g a.tracer a.field.now h.tracer h.room ∙ part-is-elements quadratic g;
       part_bound = omega (arith, ap (total quadratic g) lent, h.within-limit);
-      winds_in_range = h.wind-range;
       report_len = length-take-le c.faces-faces.result a.report.now (reports-there (goal.at.step-requires c).After-work_needed-needed h) ∙ c.faces-faces.ensures;
       work_len = omega (arith, length-take-le c.work_needed-needed.result a.work.now (works-there (goal.at.step-requires c).After-work_needed-needed h), c.work_needed-needed.ensures);
     }
@@ -130,3 +129,6 @@ returns c =
         ),
       ),
     )
+
+pub invariant_of-step : goal.invariant_of-step
+invariant_of-step c = record { in_range = (facts (goal.at.invariant_of-step c).In_ok-check).wind-range }

@@ -6,4 +6,4 @@ use Rattle.step_stages.specs.Advance.{new_sums}
 use Rattle.step_stages.proofs.add_tendencies.Given as goal
 
 abbrev pub invariant-loop-index : goal.invariant-loop-index
-invariant-loop-index l = let g = l.fn.grid.shape in BlocksFilled 9 (λ e. table 9 (new_sums g (wind_at l.wind) l.fn.stage l.initial.sums l.from e)) l.initial.sums (elements g) l.index l.sums
+invariant-loop-index l = let g = l.fn.winds.grid.shape in BlocksFilled 9 (λ e. table 9 (new_sums g (wind_at l.fn.winds.wind.now) l.fn.stage l.initial.sums l.from e)) l.initial.sums (elements g) l.index l.sums
