@@ -69,7 +69,7 @@ pub fn step(
     let needed = work_needed(grid);
     tracer::step(
         &mut field[start..end],
-        &Winds { wind, grid },
+        Winds { wind, grid },
         &mut report[..faces],
         &mut work[..needed],
     );

@@ -49,13 +49,13 @@ fn finish(part: &mut [u32], psi: &[i64], masses: &[i64], report: &[i32], grid: G
 
 // The step of a tracer's part, and its report. What it works with stands in sections of `work`, one after the other: the stages, the sums
 // of tendencies, and what the faces and the elements have.
-pub(crate) fn step(part: &mut [u32], winds: &Winds, report: &mut [i32], work: &mut [i64])
-    requires part_len { length part.old ≡ elements_length quadratic winds.now.grid.shape }
-    requires part_bound { total quadratic winds.now.grid.shape part.old ≤ limit }
-    requires report_len { length report.old ≡ faces winds.now.grid.shape }
-    requires work_len { work_needed winds.now.grid.shape ≤ length work.old }
-    ensures part_after { part.new ≡ (tracer_step quadratic winds.now.grid.shape (wind_at winds.now.wind.now) part.old).part }
-    ensures report_after { report.new ≡ (tracer_step quadratic winds.now.grid.shape (wind_at winds.now.wind.now) part.old).report }
+pub(crate) fn step(part: &mut [u32], winds: Winds, report: &mut [i32], work: &mut [i64])
+    requires part_len { length part.old ≡ elements_length quadratic winds.grid.shape }
+    requires part_bound { total quadratic winds.grid.shape part.old ≤ limit }
+    requires report_len { length report.old ≡ faces winds.grid.shape }
+    requires work_len { work_needed winds.grid.shape ≤ length work.old }
+    ensures part_after { part.new ≡ (tracer_step quadratic winds.entry.grid.shape (wind_at winds.entry.wind.now) part.old).part }
+    ensures report_after { report.new ≡ (tracer_step quadratic winds.entry.grid.shape (wind_at winds.entry.wind.now) part.old).report }
 {
     let grid = winds.grid;
     let n = grid.elements();

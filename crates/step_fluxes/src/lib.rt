@@ -72,11 +72,11 @@ fn line(face: Face) -> (usize, usize)
 }
 
 // The flux of a face.
-fn face_flux(values: &[i64], winds: &Winds, index: usize) -> i64
-    requires values_len { length values.now ≡ stage_length winds.now.grid.shape }
+fn face_flux(values: &[i64], winds: Winds, index: usize) -> i64
+    requires values_len { length values.now ≡ stage_length winds.grid.shape }
     requires all_within { AllWithin (6 * stage_size) values.now }
-    requires index_bound { index < faces winds.now.grid.shape }
-    ensures { Are flux_size result (face_flux winds.now.grid.shape (wind_at winds.now.wind.now) values.now index) }
+    requires index_bound { index < faces winds.grid.shape }
+    ensures { Are flux_size result (face_flux winds.entry.grid.shape (wind_at winds.entry.wind.now) values.now index) }
 {
     let face = Face {
         grid: winds.grid,
@@ -90,11 +90,11 @@ fn face_flux(values: &[i64], winds: &Winds, index: usize) -> i64
 }
 
 // The fluxes of all faces.
-pub fn fluxes(fluxes: &mut [i64], values: &[i64], winds: &Winds)
-    requires fluxes_len { length fluxes.old ≡ faces winds.now.grid.shape }
-    requires values_len { length values.now ≡ stage_length winds.now.grid.shape }
+pub fn fluxes(fluxes: &mut [i64], values: &[i64], winds: Winds)
+    requires fluxes_len { length fluxes.old ≡ faces winds.grid.shape }
+    requires values_len { length values.now ≡ stage_length winds.grid.shape }
     requires all_within { AllWithin (6 * stage_size) values.now }
-    ensures { fluxes.new ≡ table (faces winds.now.grid.shape) (face_flux winds.now.grid.shape (wind_at winds.now.wind.now) values.now) }
+    ensures { fluxes.new ≡ table (faces winds.entry.grid.shape) (face_flux winds.entry.grid.shape (wind_at winds.entry.wind.now) values.now) }
 {
     for (index, flux) in fluxes.iter_mut().enumerate() {
         *flux = face_flux(values, winds, index);

@@ -62,13 +62,13 @@ fn add(sums: &mut [i64], t: &[i64; NODES], times: i64)
 }
 
 // The sums of all elements with the tendencies of a stage.
-fn add_tendencies(sums: &mut [i64], from: &[i64], winds: &Winds, stage: usize)
+fn add_tendencies(sums: &mut [i64], from: &[i64], winds: Winds, stage: usize)
     requires stage_bound { stage < 3 }
-    requires sums_len { length sums.old ≡ stage_length winds.now.grid.shape }
+    requires sums_len { length sums.old ≡ stage_length winds.grid.shape }
     requires all_within { AllWithin earlier_sum_size sums.old }
-    requires from_len { length from.now ≡ stage_length winds.now.grid.shape }
+    requires from_len { length from.now ≡ stage_length winds.grid.shape }
     requires all_within_2 { AllWithin stage_size from.now }
-    ensures { sums.new ≡ listed (stage_length winds.now.grid.shape) (new_sums winds.now.grid.shape (wind_at winds.now.wind.now) stage sums.old from.now) }
+    ensures { sums.new ≡ listed (stage_length winds.entry.grid.shape) (new_sums winds.entry.grid.shape (wind_at winds.entry.wind.now) stage sums.old from.now) }
 {
     let n = winds.grid.elements();
     let times = FACTORS[stage];
@@ -116,19 +116,19 @@ pub fn advance(
     sums: &mut [i64],
     first: &[i64],
     from: &[i64],
-    winds: &Winds,
+    winds: Winds,
     stage: usize,
 )
     requires stage_bound { stage < 3 }
-    requires next_len { length next.old ≡ stage_length winds.now.grid.shape }
-    requires sums_len { length sums.old ≡ stage_length winds.now.grid.shape }
+    requires next_len { length next.old ≡ stage_length winds.grid.shape }
+    requires sums_len { length sums.old ≡ stage_length winds.grid.shape }
     requires all_within { AllWithin earlier_sum_size sums.old }
-    requires first_len { length first.now ≡ stage_length winds.now.grid.shape }
+    requires first_len { length first.now ≡ stage_length winds.grid.shape }
     requires all_within_2 { AllWithin limit first.now }
-    requires from_len { length from.now ≡ stage_length winds.now.grid.shape }
+    requires from_len { length from.now ≡ stage_length winds.grid.shape }
     requires all_within_3 { AllWithin stage_size from.now }
-    ensures sums_after { sums.new ≡ listed (stage_length winds.now.grid.shape) (new_sums winds.now.grid.shape (wind_at winds.now.wind.now) stage sums.old from.now) }
-    ensures next_after { next.new ≡ listed (stage_length winds.now.grid.shape) (new_values winds.now.grid.shape (wind_at winds.now.wind.now) stage first.now sums.old from.now) }
+    ensures sums_after { sums.new ≡ listed (stage_length winds.entry.grid.shape) (new_sums winds.entry.grid.shape (wind_at winds.entry.wind.now) stage sums.old from.now) }
+    ensures next_after { next.new ≡ listed (stage_length winds.entry.grid.shape) (new_values winds.entry.grid.shape (wind_at winds.entry.wind.now) stage first.now sums.old from.now) }
 {
     add_tendencies(sums, from, winds, stage);
     set_values(next, first, sums, stage);

@@ -32,17 +32,17 @@ pub struct Winds<'a> {
 
 impl Winds<'_> {
     // The wind of a face.
-    pub fn at_face(&self, face: usize) -> i64
-        requires { face < faces self.now.grid.shape }
-        ensures { Are 1024 result (wind_at self.now.wind.now face) }
+    pub fn at_face(self, face: usize) -> i64
+        requires { face < faces self.grid.shape }
+        ensures { Are 1024 result (wind_at self.entry.wind.now face) }
     {
         i64::from(self.wind[face])
     }
 
     // The winds of an element's west, east, south and north face.
-    fn at_sides(&self, index: usize) -> [i64; 4]
-        requires { index < elements self.now.grid.shape }
-        ensures { result ≡ side_winds self.now.grid.shape (wind_at self.now.wind.now) index }
+    fn at_sides(self, index: usize) -> [i64; 4]
+        requires { index < elements self.grid.shape }
+        ensures { result ≡ side_winds self.entry.grid.shape (wind_at self.entry.wind.now) index }
     {
         let element = Element {
             grid: self.grid,
@@ -125,11 +125,11 @@ fn values(phi: &[i64], start: usize) -> [i64; NODES]
 }
 
 // The tendencies of an element of a stage.
-pub fn tendencies(phi: &[i64], winds: &Winds, index: usize) -> [i64; NODES]
-    requires phi_len { length phi.now ≡ stage_length winds.now.grid.shape }
+pub fn tendencies(phi: &[i64], winds: Winds, index: usize) -> [i64; NODES]
+    requires phi_len { length phi.now ≡ stage_length winds.grid.shape }
     requires all_within { AllWithin stage_size phi.now }
-    requires index_bound { index < elements winds.now.grid.shape }
-    ensures { result ≡ table 9 (tendency quadratic winds.now.grid.shape (wind_at winds.now.wind.now) (as_stage phi.now) index) }
+    requires index_bound { index < elements winds.grid.shape }
+    ensures { result ≡ table 9 (tendency quadratic winds.entry.grid.shape (wind_at winds.entry.wind.now) (as_stage phi.now) index) }
 {
     let element = Element {
         grid: winds.grid,

@@ -16,29 +16,29 @@ use Rattle.step_fluxes.proofs.face_flux.Goals.{After-upwind_start-start}
 
 pub upwind_start-start-requires-clause-behind_lt_most_elements : goal.upwind_start-start-requires-clause-behind_lt_most_elements
 upwind_start-start-requires-clause-behind_lt_most_elements c =
-    let g = c.args.winds.now.grid in
+    let g = c.args.winds.grid in
     let h = g.admitted in
     omega (arith, c.ends-behind.ensures.behind, behind-lt g.shape h.nx-above h.ny-above c.args.index c.requires.index_bound, elements-le g.shape h)
 
 pub upwind_start-start-requires-clause-ahead_lt_most_elements : goal.upwind_start-start-requires-clause-ahead_lt_most_elements
 upwind_start-start-requires-clause-ahead_lt_most_elements c =
-    let g = c.args.winds.now.grid in
+    let g = c.args.winds.grid in
     let h = g.admitted in
     omega (arith, c.ends-behind.ensures.ahead, ahead-lt g.shape h.nx-above h.ny-above c.args.index c.requires.index_bound, elements-le g.shape h)
 
-begun : (c : After-upwind_start-start) → c.upwind_start-start.result ≡ begin c.args.winds.now.grid.shape (wind_at c.args.winds.now.wind.now) c.args.values.now c.args.index
+begun : (c : After-upwind_start-start) → c.upwind_start-start.result ≡ begin c.args.winds.grid.shape (wind_at c.args.winds.wind.now) c.args.values.now c.args.index
 begun c =
     let e = c.ends-behind.ensures in
     c.upwind_start-start.ensures ∙ (λ i. upwind_start (read_back w64 c.at_face-c.ensures tt i) (e.behind i) (e.ahead i) (c.line-last.ensures.last i))
 
 pub line_sum-requires-clause-stride_bound : goal.line_sum-requires-clause-stride_bound
 line_sum-requires-clause-stride_bound c =
-    let g = c.args.winds.now.grid in
-    omega (arith, begun (goal.at.line_sum-requires-clause-stride_bound c).After-upwind_start-start, c.line-last.ensures.stride, c.requires.values_len, line-room g.shape (wind_at c.args.winds.now.wind.now) c.args.values.now c.args.index g.admitted c.requires.index_bound)
+    let g = c.args.winds.grid in
+    omega (arith, begun (goal.at.line_sum-requires-clause-stride_bound c).After-upwind_start-start, c.line-last.ensures.stride, c.requires.values_len, line-room g.shape (wind_at c.args.winds.wind.now) c.args.values.now c.args.index g.admitted c.requires.index_bound)
 
 pub returns : goal.returns
 returns c =
     let v = c.args.values.now in
-    let w = c.args.winds.now in
+    let w = c.args.winds in
     let s = read_back w64 c.line_sum.ensures tt ∙ (λ i. line_sum v (begun (goal.at.returns c).After-upwind_start-start i) (c.line-last.ensures.stride i)) in
     are-eq (record { same = read_back w64 c.flux_of.ensures tt; bound = c.flux_of.ensures.bound }) (ap₂ (flux_of quadratic) (read_back w64 c.at_face-c.ensures tt) s ∙ flux-by-line w.grid.shape (wind_at w.wind.now) v c.args.index)

@@ -25,13 +25,13 @@ use Rattle.step_stages.proofs.add_tendencies.Goals.{In-loop-index}
 pub loop-index-init : goal.loop-index-init
 loop-index-init c = blocks-none (omega (arith, c.requires.sums_len))
 
-inside : (c : In-loop-index) → c.loop-index.index < elements c.args.winds.now.grid.shape
+inside : (c : In-loop-index) → c.loop-index.index < elements c.args.winds.grid.shape
 inside c = omega (arith, c.elements-n.ensures)
 
 pub add-requires-clause-all_within_2 : goal.add-requires-clause-all_within_2
 add-requires-clause-all_within_2 c =
     let h = c.requires in
-    subst (AllWithin tendency_size) (sym c.tendencies-t.ensures) (tendencies-small c.args.winds.now.grid.shape c.args.winds.now.wind.now c.args.from.now c.args.winds.now.grid.admitted c.args.winds.now.in_range h.all_within_2 c.loop-index.index (inside (goal.at.add-requires-clause-all_within_2 c).In-loop-index))
+    subst (AllWithin tendency_size) (sym c.tendencies-t.ensures) (tendencies-small c.args.winds.grid.shape c.args.winds.wind.now c.args.from.now c.args.winds.grid.admitted c.args.winds.in_range h.all_within_2 c.loop-index.index (inside (goal.at.add-requires-clause-all_within_2 c).In-loop-index))
 
 -- the sums of a turn
 lent : (c : In-loop-index) → drop (c.loop-index.index * 9) c.loop-index.sums ≡ drop (c.loop-index.index * 9) c.args.sums.now
@@ -41,8 +41,8 @@ pub loop-index-preserved : goal.loop-index-preserved
 loop-index-preserved c =
     let a = c.args in
     let e = c.loop-index.index in
-    let g = a.winds.now.grid.shape in
-    let f = wind_at a.winds.now.wind.now in
+    let g = a.winds.grid.shape in
+    let f = wind_at a.winds.wind.now in
     let sub = add-sub_cancel_left (e * 9) 9 in
     let t : (k : ℕ) → k < 9 → at c.tendencies-t.result k ≡ tendency quadratic g f (as_stage a.from.now) e k =
     λ k l. ap (λ x. at x k) c.tendencies-t.ensures ∙ get_d-table 9 (tendency quadratic g f (as_stage a.from.now) e) k (pos 0) l in
@@ -53,4 +53,4 @@ loop-index-preserved c =
 
 pub returns : goal.returns
 returns c = let a = c.args in
-    blocks-whole c.loop-index.invariant (omega (arith, c.elements-n.ensures)) c.requires.sums_len ∙ blocks-table 9 (new_sums a.winds.now.grid.shape (wind_at a.winds.now.wind.now) a.stage a.sums.now a.from.now) (omega arith) (elements a.winds.now.grid.shape)
+    blocks-whole c.loop-index.invariant (omega (arith, c.elements-n.ensures)) c.requires.sums_len ∙ blocks-table 9 (new_sums a.winds.grid.shape (wind_at a.winds.wind.now) a.stage a.sums.now a.from.now) (omega arith) (elements a.winds.grid.shape)

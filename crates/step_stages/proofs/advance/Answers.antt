@@ -9,9 +9,9 @@ pub set_values-requires-clause-all_within_2 : goal.set_values-requires-clause-al
 set_values-requires-clause-all_within_2 c =
     let a = c.args in
     let h = c.requires in
-    subst (AllWithin sum_size) (sym c.add_tendencies.ensures) (sums-small a.winds.now.grid.shape a.winds.now.wind.now a.from.now a.winds.now.grid.admitted a.winds.now.in_range h.all_within_3 a.stage a.sums.now h.stage_bound h.all_within)
+    subst (AllWithin sum_size) (sym c.add_tendencies.ensures) (sums-small a.winds.grid.shape a.winds.wind.now a.from.now a.winds.grid.admitted a.winds.in_range h.all_within_3 a.stage a.sums.now h.stage_bound h.all_within)
 
 pub returns-clause-next_after : goal.returns-clause-next_after
 returns-clause-next_after c =
     let a = c.args in
-    c.set_values.ensures ∙ values-are a.winds.now.grid.shape (wind_at a.winds.now.wind.now) a.stage _ a.first.now a.sums.now _ a.from.now c.requires.next_len c.add_tendencies.ensures
+    c.set_values.ensures ∙ values-are a.winds.grid.shape (wind_at a.winds.wind.now) a.stage _ a.first.now a.sums.now _ a.from.now c.requires.next_len c.add_tendencies.ensures

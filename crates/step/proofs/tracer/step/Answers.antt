@@ -12,23 +12,23 @@ use Rattle.step.proofs.TracerLaws.{Given, mass-small, phi, sums, phi-small, phi0
 use Rattle.step.proofs.tracer.step.Goals as goal
 use Rattle.step.proofs.tracer.step.Goals.{After-split_at_mut-outflows, After-start, After-fill, After-advance, After-advance-2, After-advance-3, After-combine, After-fluxes, After-masses, After-outflows, After-limit, Start}
 
-given : (c : Start) → Given c.args.winds.now.grid.shape c.args.winds.now.wind.now c.args.part.now
-given c = let h = c.requires in record { admits = c.args.winds.now.grid.admitted; winds = c.args.winds.now.in_range; numbers = h.part_len; within-limit = h.part_bound }
+given : (c : Start) → Given c.args.winds.grid.shape c.args.winds.wind.now c.args.part.now
+given c = let h = c.requires in record { admits = c.args.winds.grid.admitted; winds = c.args.winds.in_range; numbers = h.part_len; within-limit = h.part_bound }
 
 -- ---- the stages
-at-1 : (c : After-advance) (h : Given c.args.winds.now.grid.shape c.args.winds.now.wind.now c.args.part.now) → (c.start.new.stage ≡ phi h 0) × ((c.advance.new.next ≡ phi h 1) × (c.advance.new.sums ≡ sums h 1))
+at-1 : (c : After-advance) (h : Given c.args.winds.grid.shape c.args.winds.wind.now c.args.part.now) → (c.start.new.stage ≡ phi h 0) × ((c.advance.new.next ≡ phi h 1) × (c.advance.new.sums ≡ sums h 1))
 at-1 c h =
     let n = c.elements-n.ensures in
     passed-1 h c.start.ensures (omega (arith, c.split_at_mut-sums.ensures.front_len, n)) (c.fill.ensures.after (λ y e. e)) c.advance.ensures.sums_after c.advance.ensures.next_after
 
-at-2 : (c : After-advance-2) (h : Given c.args.winds.now.grid.shape c.args.winds.now.wind.now c.args.part.now)
+at-2 : (c : After-advance-2) (h : Given c.args.winds.grid.shape c.args.winds.wind.now c.args.part.now)
     → (c.start.new.stage ≡ phi h 0) × ((c.advance.new.next ≡ phi h 1) × ((c.advance-2.new.next ≡ phi h 2) × (c.advance-2.new.sums ≡ sums h 2)))
 at-2 c h =
     let n = c.elements-n.ensures in
     let q = passed-1 h c.start.ensures (omega (arith, c.split_at_mut-sums.ensures.front_len, n)) (c.fill.ensures.after (λ y e. e)) c.advance.ensures.sums_after c.advance.ensures.next_after in
     passed-2 h q c.advance-2.ensures.sums_after c.advance-2.ensures.next_after
 
-at-3 : (c : After-advance-3) (h : Given c.args.winds.now.grid.shape c.args.winds.now.wind.now c.args.part.now) → c.advance-3.new.next ≡ phi h 3
+at-3 : (c : After-advance-3) (h : Given c.args.winds.grid.shape c.args.winds.wind.now c.args.part.now) → c.advance-3.new.next ≡ phi h 3
 at-3 c h =
     let n = c.elements-n.ensures in
     let q = passed-1 h c.start.ensures (omega (arith, c.split_at_mut-sums.ensures.front_len, n)) (c.fill.ensures.after (λ y e. e)) c.advance.ensures.sums_after c.advance.ensures.next_after in
@@ -99,7 +99,7 @@ fluxes-requires-clause-all_within c =
     subst (AllWithin (6 * stage_size)) (sym v) (together-small h)
 
 pub masses-requires-clause-part_len : goal.masses-requires-clause-part_len
-masses-requires-clause-part_len c = omega (arith, c.requires.part_len, elements-are c.args.winds.now.grid.shape, c.split_at_mut-masses.ensures.front_len, c.elements-n.ensures)
+masses-requires-clause-part_len c = omega (arith, c.requires.part_len, elements-are c.args.winds.grid.shape, c.split_at_mut-masses.ensures.front_len, c.elements-n.ensures)
 
 pub masses-requires-clause-within_limit : goal.masses-requires-clause-within_limit
 masses-requires-clause-within_limit c =
