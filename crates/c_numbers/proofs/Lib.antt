@@ -1,2 +1,2 @@
--- Answers and faces as numbers.
+-- Answers, shapes and faces as numbers.
 pub mod NumberLaws

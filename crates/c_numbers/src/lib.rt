@@ -1,4 +1,4 @@
-// Answers and faces as the numbers that the C interface passes.
+// Answers, shapes and faces as the numbers that the C interface passes.
 // A number becomes an i64 by `as`: std has no `From` from u64 or usize, and Rattle proves that nothing is lost, so that a `try_from` would
 // add an unwrap that can never fail.
 #![tactic(auto)]
@@ -7,7 +7,7 @@ ghost use Rattle.std.specs.Prelude.{◌≡◌, pos, neg_ℤ};
 ghost use Rattle.whole.specs.Bound.{Are};
 ghost use Rattle.rules.specs.Answers.{number, answered};
 ghost use Rattle.rules.specs.Field.{limit};
-ghost use Rattle.c_numbers.specs.Numbers.{face_of, code, number_or, Small, shape_or, AdmittedShape};
+ghost use Rattle.c_numbers.specs.Numbers.{shape_of, face_of, code, number_or, Small, shape_or, AdmittedShape};
 
 use rules::{Face, Refusal, Shape, Way};
 
@@ -47,6 +47,17 @@ pub fn shape_or(answer: Result<Shape, Refusal>) -> i64
     match answer {
         Ok(shape) => (shape.nx + 256 * shape.ny + 65536 * shape.tracers) as i64,
         Err(r) => negated(r),
+    }
+}
+
+// A shape from its three numbers.
+pub fn shape(nx: usize, ny: usize, smokes: usize) -> Shape
+    ensures { result ≡ shape_of nx ny smokes }
+{
+    Shape {
+        nx,
+        ny,
+        tracers: smokes,
     }
 }
 

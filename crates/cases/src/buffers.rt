@@ -57,7 +57,8 @@ pub(crate) fn numbers() -> [u32; 26] {
     numbers
 }
 
-// Numbers to load with the total 100,000,000 + rest.
+// Numbers to load with the total 100,000,000 + rest. Like `total_of` it sets two numbers of an empty buffer: one function for both would take these
+// two, their places and the length, which is all that either is.
 pub(crate) fn full_numbers(rest: u32) -> [u32; 26] {
     let mut numbers = [0u32; 26];
     numbers[4] = 6_250_000;

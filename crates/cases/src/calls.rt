@@ -49,119 +49,101 @@ impl fmt::Display for Change {
     }
 }
 
-pub(crate) fn apply(
-    rt: &impl Print,
-    edge: &str,
-    before: [u32; 59],
+// A call on a shape: where its line goes, and what it says is at the edge.
+#[derive(Drop)]
+pub(crate) struct Case<'a, P> {
+    rt: &'a P,
+    edge: &'a str,
     shape: Shape,
-    place: Place,
-    change: Change,
-) -> io::Result<()> {
-    let mut after = before;
-    let answer = show::outcome(change.call(&mut after, shape, place));
-    let left = FieldLeft {
-        before: &before,
-        after: &after,
-        shape,
-        place,
-    };
-    println!(rt; "{change}, {edge}: {answer}{left}")
 }
 
-pub(crate) fn wind(
-    rt: &impl Print,
-    edge: &str,
-    before: [i16; 5],
-    shape: Shape,
-    face: Face,
-) -> io::Result<()> {
-    let mut after = before;
-    let answer = show::outcome(field::wind(&mut after, shape, face));
-    let way = match face.way {
-        Way::East => "east",
-        Way::North => "north",
-    };
-    let left = WindsLeft { before, after };
-    println!(rt; "{way} wind, {edge}: {answer}{left}")
-}
+impl<'a, P: Print> Case<'a, P> {
+    pub(crate) fn new(rt: &'a P, edge: &'a str, shape: Shape) -> Case<'a, P> {
+        Case { rt, edge, shape }
+    }
 
-pub(crate) fn import(
-    rt: &impl Print,
-    edge: &str,
-    before: [i16; 5],
-    shape: Shape,
-    records: &[u8],
-) -> io::Result<()> {
-    let mut after = before;
-    let answer = show::outcome(wind_import::import(&mut after, records, shape));
-    let left = WindsLeft { before, after };
-    println!(rt; "import, {edge}: {answer}{left}")
-}
+    pub(crate) fn apply(&self, before: [u32; 59], place: Place, change: Change) -> io::Result<()> {
+        let Case { rt, edge, shape } = *self;
+        let mut after = before;
+        let answer = show::outcome(change.call(&mut after, shape, place));
+        let left = FieldLeft {
+            before: &before,
+            after: &after,
+            shape,
+            place,
+        };
+        println!(rt; "{change}, {edge}: {answer}{left}")
+    }
 
-pub(crate) fn fresh(
-    rt: &impl Print,
-    edge: &str,
-    before: [u32; 59],
-    winds_before: [i16; 5],
-    shape: Shape,
-) -> io::Result<()> {
-    let mut after = before;
-    let mut winds_after = winds_before;
-    let answer = show::outcome(field::fresh(&mut after, &mut winds_after, shape));
-    let left = FieldLeft {
-        before: &before,
-        after: &after,
-        shape,
-        place: at(0, 0, 0),
-    };
-    let winds = WindsLeft {
-        before: winds_before,
-        after: winds_after,
-    };
-    println!(rt; "fresh, {edge}: {answer}{left}{winds}")
-}
+    pub(crate) fn wind(&self, before: [i16; 5], face: Face) -> io::Result<()> {
+        let Case { rt, edge, shape } = *self;
+        let mut after = before;
+        let answer = show::outcome(field::wind(&mut after, shape, face));
+        let way = match face.way {
+            Way::East => "east",
+            Way::North => "north",
+        };
+        let left = WindsLeft { before, after };
+        println!(rt; "{way} wind, {edge}: {answer}{left}")
+    }
 
-pub(crate) fn load(
-    rt: &impl Print,
-    edge: &str,
-    before: [u32; 59],
-    numbers: [u32; 26],
-    shape: Shape,
-    tracer: usize,
-) -> io::Result<()> {
-    let mut after = before;
-    let answer = show::outcome(field::load(&mut after, &numbers, shape, tracer));
-    let left = FieldLeft {
-        before: &before,
-        after: &after,
-        shape,
-        place: at(tracer, 0, 0),
-    };
-    println!(rt; "load, {edge}: {answer}{left}")
+    pub(crate) fn import(&self, before: [i16; 5], records: &[u8]) -> io::Result<()> {
+        let Case { rt, edge, shape } = *self;
+        let mut after = before;
+        let answer = show::outcome(wind_import::import(&mut after, records, shape));
+        let left = WindsLeft { before, after };
+        println!(rt; "import, {edge}: {answer}{left}")
+    }
+
+    pub(crate) fn fresh(&self, before: [u32; 59], winds_before: [i16; 5]) -> io::Result<()> {
+        let Case { rt, edge, shape } = *self;
+        let mut after = before;
+        let mut winds_after = winds_before;
+        let answer = show::outcome(field::fresh(&mut after, &mut winds_after, shape));
+        let left = FieldLeft {
+            before: &before,
+            after: &after,
+            shape,
+            place: at(0, 0, 0),
+        };
+        let winds = WindsLeft {
+            before: winds_before,
+            after: winds_after,
+        };
+        println!(rt; "fresh, {edge}: {answer}{left}{winds}")
+    }
+
+    pub(crate) fn load(
+        &self,
+        before: [u32; 59],
+        numbers: [u32; 26],
+        tracer: usize,
+    ) -> io::Result<()> {
+        let Case { rt, edge, shape } = *self;
+        let mut after = before;
+        let answer = show::outcome(field::load(&mut after, &numbers, shape, tracer));
+        let left = FieldLeft {
+            before: &before,
+            after: &after,
+            shape,
+            place: at(tracer, 0, 0),
+        };
+        println!(rt; "load, {edge}: {answer}{left}")
+    }
+
+    pub(crate) fn mass(&self, numbers: [u32; 59], place: Place) -> io::Result<()> {
+        let Case { rt, edge, shape } = *self;
+        let answer = Answer(mass_at(&numbers, shape, place));
+        println!(rt; "mass, {edge}: {answer}")
+    }
+
+    pub(crate) fn total(&self, numbers: [u32; 59], tracer: usize) -> io::Result<()> {
+        let Case { rt, edge, shape } = *self;
+        let answer = Answer(field::total(&numbers, shape, tracer));
+        println!(rt; "total, {edge}: {answer}")
+    }
 }
 
 pub(crate) fn mass_at(field: &[u32], shape: Shape, place: Place) -> Result<u64, Refusal> {
     field::mass(field, shape, place.tracer, place.i, place.j)
-}
-
-pub(crate) fn mass(
-    rt: &impl Print,
-    edge: &str,
-    numbers: [u32; 59],
-    shape: Shape,
-    place: Place,
-) -> io::Result<()> {
-    let answer = Answer(mass_at(&numbers, shape, place));
-    println!(rt; "mass, {edge}: {answer}")
-}
-
-pub(crate) fn total(
-    rt: &impl Print,
-    edge: &str,
-    numbers: [u32; 59],
-    shape: Shape,
-    tracer: usize,
-) -> io::Result<()> {
-    let answer = Answer(field::total(&numbers, shape, tracer));
-    println!(rt; "total, {edge}: {answer}")
 }

@@ -1,6 +1,6 @@
 // What calls leave in the buffers: whole elements, surplus numbers, and grids of one row or column.
 use super::buffers;
-use super::calls::{self, Change};
+use super::calls::{self, Case, Change};
 use super::show::{self, Numbers};
 use rules::Way;
 use std::io;
@@ -77,8 +77,9 @@ fn grids(rt: &impl Print) -> io::Result<()> {
     ] {
         let sample = buffers::sample();
         let place = calls::at(0, i, j);
-        calls::mass(rt, edge, sample, shape, place)?;
-        calls::apply(rt, edge, sample, shape, place, Change::Emission(5))?;
+        let case = Case::new(rt, edge, shape);
+        case.mass(sample, place)?;
+        case.apply(sample, place, Change::Emission(5))?;
     }
     Ok(())
 }
@@ -93,7 +94,7 @@ fn grid_winds(rt: &impl Print) -> io::Result<()> {
         ("1 by 2, element (0, 1)", column, Way::North, 1),
     ] {
         let face = calls::face(way, 0, j, 5);
-        calls::wind(rt, edge, buffers::winds(), shape, face)?;
+        Case::new(rt, edge, shape).wind(buffers::winds(), face)?;
     }
     Ok(())
 }

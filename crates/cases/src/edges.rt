@@ -1,6 +1,6 @@
 // The last number that passes, and the first that doesn't.
 use super::buffers;
-use super::calls::{self, Change};
+use super::calls::{self, Case, Change};
 use rules::Way;
 use std::io;
 
@@ -22,7 +22,7 @@ fn east_winds(rt: &impl Print) -> io::Result<()> {
         ("-32768 at (1, 0)", i16::MIN),
     ] {
         let face = calls::face(Way::East, 1, 0, wind);
-        calls::wind(rt, edge, buffers::winds(), buffers::pair(), face)?;
+        Case::new(rt, edge, buffers::pair()).wind(buffers::winds(), face)?;
     }
     Ok(())
 }
@@ -35,7 +35,7 @@ fn north_winds(rt: &impl Print) -> io::Result<()> {
         ("-1025 at (0, 0)", -1025),
     ] {
         let face = calls::face(Way::North, 0, 0, wind);
-        calls::wind(rt, edge, buffers::winds(), buffers::pair(), face)?;
+        Case::new(rt, edge, buffers::pair()).wind(buffers::winds(), face)?;
     }
     Ok(())
 }
@@ -44,8 +44,9 @@ fn withdrawals(rt: &impl Print) -> io::Result<()> {
     let sample = buffers::sample();
     let shape = buffers::pair();
     let place = calls::at(0, 0, 0);
-    calls::mass(rt, "before the withdrawals", sample, shape, place)?;
-    calls::total(rt, "before the withdrawals", sample, shape, 0)?;
+    let before = Case::new(rt, "before the withdrawals", shape);
+    before.mass(sample, place)?;
+    before.total(sample, 0)?;
     for (edge, q) in [
         ("0 of 77", 0),
         ("76 of 77", 76),
@@ -53,7 +54,7 @@ fn withdrawals(rt: &impl Print) -> io::Result<()> {
         ("78 of 77", 78),
         ("u64 maximum of 77", u64::MAX),
     ] {
-        calls::apply(rt, edge, sample, shape, place, Change::Withdrawal(q))?;
+        Case::new(rt, edge, shape).apply(sample, place, Change::Withdrawal(q))?;
     }
     Ok(())
 }
@@ -64,7 +65,7 @@ fn full_loads(rt: &impl Print) -> io::Result<()> {
         ("total 100000001", buffers::full_numbers(1)),
         ("every number the u32 maximum", [u32::MAX; 26]),
     ] {
-        calls::load(rt, edge, buffers::sample(), numbers, buffers::pair(), 0)?;
+        Case::new(rt, edge, buffers::pair()).load(buffers::sample(), numbers, 0)?;
     }
     Ok(())
 }
@@ -74,7 +75,7 @@ fn full_emissions(rt: &impl Print) -> io::Result<()> {
     let place = calls::at(0, 1, 0);
     let nearly = buffers::total_of(6);
     let full = buffers::total_of(16);
-    calls::total(rt, "nearly full", nearly, shape, 0)?;
+    Case::new(rt, "nearly full", shape).total(nearly, 0)?;
     for (edge, before, q) in [
         ("10 to 99999990", nearly, 10),
         ("11 to 99999990", nearly, 11),
@@ -82,7 +83,7 @@ fn full_emissions(rt: &impl Print) -> io::Result<()> {
         ("0 to 100000000", full, 0),
         ("1 to 100000000", full, 1),
     ] {
-        calls::apply(rt, edge, before, shape, place, Change::Emission(q))?;
+        Case::new(rt, edge, shape).apply(before, place, Change::Emission(q))?;
     }
     Ok(())
 }

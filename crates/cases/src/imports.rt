@@ -1,5 +1,6 @@
 // Imports of wind records at and beside the edges of document 02, 2026-01. The bytes of a number are those of an f64, the lowest first.
-use super::{buffers, calls};
+use super::buffers;
+use super::calls::{self, Case};
 use std::io;
 
 pub(crate) fn run(rt: &impl Print) -> io::Result<()> {
@@ -14,7 +15,7 @@ pub(crate) fn run(rt: &impl Print) -> io::Result<()> {
 // The imports of rows of a text and its records.
 fn each(rt: &impl Print, rows: &[(&str, &[u8])]) -> io::Result<()> {
     for &(edge, records) in rows {
-        calls::import(rt, edge, buffers::winds(), buffers::pair(), records)?;
+        Case::new(rt, edge, buffers::pair()).import(buffers::winds(), records)?;
     }
     Ok(())
 }
@@ -135,6 +136,6 @@ fn two_faults(rt: &impl Print) -> io::Result<()> {
 fn refused_before_records(rt: &impl Print) -> io::Result<()> {
     let winds = buffers::winds();
     let elements = buffers::three_elements();
-    calls::import(rt, "nx 0, no byte", winds, calls::shape(0, 1, 2), b"")?;
-    calls::import(rt, "one wind too few, no byte", winds, elements, b"")
+    Case::new(rt, "nx 0, no byte", calls::shape(0, 1, 2)).import(winds, b"")?;
+    Case::new(rt, "one wind too few, no byte", elements).import(winds, b"")
 }

@@ -1,6 +1,6 @@
 // Two reasons to refuse: the one with the lower number is told. And what is not looked at.
 use super::buffers;
-use super::calls::{self, Change};
+use super::calls::{self, Case, Change};
 use rules::Way;
 use std::io;
 
@@ -17,16 +17,16 @@ fn unsound(rt: &impl Print) -> io::Result<()> {
     let odd = buffers::remainder_36();
     let shape = buffers::pair();
     let place = calls::at(2, 0, 0);
-    let edge = "remainder 36, tracer 2";
-    calls::apply(rt, edge, odd, shape, place, Change::Emission(5))?;
-    calls::apply(rt, edge, odd, shape, place, Change::Withdrawal(5))?;
-    calls::mass(rt, edge, odd, shape, place)?;
-    calls::total(rt, edge, odd, shape, 2)?;
+    let case = Case::new(rt, "remainder 36, tracer 2", shape);
+    case.apply(odd, place, Change::Emission(5))?;
+    case.apply(odd, place, Change::Withdrawal(5))?;
+    case.mass(odd, place)?;
+    case.total(odd, 2)?;
     let place = calls::at(0, 2, 0);
-    let edge = "remainder 36, element (2, 0)";
-    calls::apply(rt, edge, odd, shape, place, Change::Emission(5))?;
-    calls::apply(rt, edge, odd, shape, place, Change::Withdrawal(5))?;
-    calls::mass(rt, edge, odd, shape, place)
+    let case = Case::new(rt, "remainder 36, element (2, 0)", shape);
+    case.apply(odd, place, Change::Emission(5))?;
+    case.apply(odd, place, Change::Withdrawal(5))?;
+    case.mass(odd, place)
 }
 
 // Tracer 0 is unsound, and the call is on tracer 1 or is a load.
@@ -34,13 +34,13 @@ fn unsound_elsewhere(rt: &impl Print) -> io::Result<()> {
     let odd = buffers::remainder_36();
     let shape = buffers::pair();
     let place = calls::at(1, 0, 0);
-    let edge = "remainder 36 in the other tracer";
-    calls::apply(rt, edge, odd, shape, place, Change::Emission(5))?;
-    calls::apply(rt, edge, odd, shape, place, Change::Withdrawal(5))?;
-    calls::mass(rt, edge, odd, shape, place)?;
-    calls::total(rt, edge, odd, shape, 1)?;
+    let case = Case::new(rt, "remainder 36 in the other tracer", shape);
+    case.apply(odd, place, Change::Emission(5))?;
+    case.apply(odd, place, Change::Withdrawal(5))?;
+    case.mass(odd, place)?;
+    case.total(odd, 1)?;
     let numbers = buffers::numbers();
-    calls::load(rt, "over a remainder 36", odd, numbers, shape, 0)
+    Case::new(rt, "over a remainder 36", shape).load(odd, numbers, 0)
 }
 
 // A wind number out of range, with a lower reason and with a higher one.
@@ -51,7 +51,7 @@ fn winds(rt: &impl Print) -> io::Result<()> {
         ("1025, element (2, 0)", buffers::pair(), 2),
     ] {
         let face = calls::face(Way::East, i, 0, 1025);
-        calls::wind(rt, edge, buffers::winds(), shape, face)?;
+        Case::new(rt, edge, shape).wind(buffers::winds(), face)?;
     }
     Ok(())
 }
@@ -65,7 +65,7 @@ fn loads(rt: &impl Print) -> io::Result<()> {
         ("tracer 2, total 100000001", buffers::pair(), 2),
     ] {
         let over = buffers::full_numbers(1);
-        calls::load(rt, edge, buffers::sample(), over, shape, tracer)?;
+        Case::new(rt, edge, shape).load(buffers::sample(), over, tracer)?;
     }
     Ok(())
 }
@@ -79,10 +79,10 @@ fn amounts(rt: &impl Print) -> io::Result<()> {
     let off = calls::at(0, 2, 0);
     let lost = calls::at(3, 2, 0);
     let five = Change::Emission(5);
-    calls::apply(rt, "59 numbers for 60, remainder 36", odd, short, off, five)?;
-    calls::apply(rt, "59 numbers for 60, tracer 3", sample, short, lost, five)?;
-    calls::apply(rt, "tracer 3, element (2, 0)", sample, shape, lost, five)?;
-    let edge = "element (2, 0), u64 maximum";
-    calls::apply(rt, edge, sample, shape, off, Change::Emission(u64::MAX))?;
-    calls::apply(rt, edge, sample, shape, off, Change::Withdrawal(u64::MAX))
+    Case::new(rt, "59 numbers for 60, remainder 36", short).apply(odd, off, five)?;
+    Case::new(rt, "59 numbers for 60, tracer 3", short).apply(sample, lost, five)?;
+    Case::new(rt, "tracer 3, element (2, 0)", shape).apply(sample, lost, five)?;
+    let case = Case::new(rt, "element (2, 0), u64 maximum", shape);
+    case.apply(sample, off, Change::Emission(u64::MAX))?;
+    case.apply(sample, off, Change::Withdrawal(u64::MAX))
 }

@@ -1,7 +1,7 @@
 // Each refusal of each call.
 use super::buffers;
-use super::calls::{self, Change, Place};
-use rules::{Shape, Way};
+use super::calls::{self, Case, Change, Place};
+use rules::Way;
 use std::io;
 
 pub(crate) fn run(rt: &impl Print) -> io::Result<()> {
@@ -13,38 +13,26 @@ pub(crate) fn run(rt: &impl Print) -> io::Result<()> {
 }
 
 // The calls on an element and on a tracer, at a tracer and its first element.
-fn on_first_element(
-    rt: &impl Print,
-    edge: &str,
-    field: [u32; 59],
-    shape: Shape,
-    tracer: usize,
-) -> io::Result<()> {
-    on_element(rt, edge, field, shape, calls::at(tracer, 0, 0))?;
-    calls::total(rt, edge, field, shape, tracer)
+fn on_first_element(case: &Case<impl Print>, field: [u32; 59], tracer: usize) -> io::Result<()> {
+    on_element(case, field, calls::at(tracer, 0, 0))?;
+    case.total(field, tracer)
 }
 
 // The calls on an element.
-fn on_element(
-    rt: &impl Print,
-    edge: &str,
-    field: [u32; 59],
-    shape: Shape,
-    place: Place,
-) -> io::Result<()> {
-    calls::apply(rt, edge, field, shape, place, Change::Emission(5))?;
-    calls::apply(rt, edge, field, shape, place, Change::Withdrawal(5))?;
-    calls::mass(rt, edge, field, shape, place)
+fn on_element(case: &Case<impl Print>, field: [u32; 59], place: Place) -> io::Result<()> {
+    case.apply(field, place, Change::Emission(5))?;
+    case.apply(field, place, Change::Withdrawal(5))?;
+    case.mass(field, place)
 }
 
 // Every call with a shape.
-fn with_shape(rt: &impl Print, edge: &str, shape: Shape) -> io::Result<()> {
+fn with_shape(case: &Case<impl Print>) -> io::Result<()> {
     let sample = buffers::sample();
     let winds = buffers::winds();
-    calls::wind(rt, edge, winds, shape, calls::face(Way::East, 0, 0, 5))?;
-    calls::fresh(rt, edge, sample, winds, shape)?;
-    calls::load(rt, edge, sample, buffers::numbers(), shape, 0)?;
-    on_first_element(rt, edge, sample, shape, 0)
+    case.wind(winds, calls::face(Way::East, 0, 0, 5))?;
+    case.fresh(sample, winds)?;
+    case.load(sample, buffers::numbers(), 0)?;
+    on_first_element(case, sample, 0)
 }
 
 // 2: a shape out of its ranges; and 4 for the largest shape.
@@ -61,7 +49,7 @@ fn shapes(rt: &impl Print) -> io::Result<()> {
         ("usize maximum of tracers", calls::shape(2, 1, usize::MAX)),
         ("64 by 64, 8 tracers", calls::shape(64, 64, 8)),
     ] {
-        with_shape(rt, edge, shape)?;
+        with_shape(&Case::new(rt, edge, shape))?;
     }
     Ok(())
 }
@@ -74,28 +62,30 @@ fn short_buffers(rt: &impl Print) -> io::Result<()> {
     let tracers = buffers::three_tracers();
     let elements = buffers::three_elements();
     let face = calls::face(Way::East, 0, 0, 5);
-    calls::wind(rt, "5 winds for 6", winds, elements, face)?;
-    calls::fresh(rt, "59 numbers for 60", sample, winds, tracers)?;
-    calls::fresh(rt, "5 winds for 6", sample, winds, elements)?;
-    calls::load(rt, "59 numbers for 60", sample, numbers, tracers, 0)?;
-    calls::load(rt, "26 loaded for 27", sample, numbers, elements, 0)?;
-    on_first_element(rt, "59 numbers for 60", sample, tracers, 0)
+    Case::new(rt, "5 winds for 6", elements).wind(winds, face)?;
+    Case::new(rt, "59 numbers for 60", tracers).fresh(sample, winds)?;
+    Case::new(rt, "5 winds for 6", elements).fresh(sample, winds)?;
+    Case::new(rt, "59 numbers for 60", tracers).load(sample, numbers, 0)?;
+    Case::new(rt, "26 loaded for 27", elements).load(sample, numbers, 0)?;
+    on_first_element(&Case::new(rt, "59 numbers for 60", tracers), sample, 0)
 }
 
 // 6: a remainder above 35, or a total above the limit.
 fn unsound_tracers(rt: &impl Print) -> io::Result<()> {
-    let odd = buffers::remainder_36();
-    let over = buffers::total_of(17);
-    let shape = buffers::pair();
+    let pair = buffers::pair();
     let place = calls::at(0, 0, 0);
+    let odd = buffers::remainder_36();
+    let odd_case = Case::new(rt, "remainder 36", pair);
+    let over = buffers::total_of(17);
+    let over_case = Case::new(rt, "a total of 100000001", pair);
     for change in [Change::Emission(5), Change::Withdrawal(5)] {
-        calls::apply(rt, "remainder 36", odd, shape, place, change)?;
-        calls::apply(rt, "a total of 100000001", over, shape, place, change)?;
+        odd_case.apply(odd, place, change)?;
+        over_case.apply(over, place, change)?;
     }
-    calls::mass(rt, "remainder 36", odd, shape, place)?;
-    calls::mass(rt, "a total of 100000001", over, shape, place)?;
-    calls::total(rt, "remainder 36", odd, shape, 0)?;
-    calls::total(rt, "a total of 100000001", over, shape, 0)
+    odd_case.mass(odd, place)?;
+    over_case.mass(over, place)?;
+    odd_case.total(odd, 0)?;
+    over_case.total(over, 0)
 }
 
 // 7: no such tracer; after one that is there.
@@ -105,16 +95,15 @@ fn tracers(rt: &impl Print) -> io::Result<()> {
         ("tracer 2 of 2", 2),
         ("tracer usize maximum", usize::MAX),
     ] {
-        with_tracer(rt, edge, tracer)?;
+        with_tracer(&Case::new(rt, edge, buffers::pair()), tracer)?;
     }
     Ok(())
 }
 
-fn with_tracer(rt: &impl Print, edge: &str, tracer: usize) -> io::Result<()> {
+fn with_tracer(case: &Case<impl Print>, tracer: usize) -> io::Result<()> {
     let sample = buffers::sample();
-    let shape = buffers::pair();
-    calls::load(rt, edge, sample, buffers::numbers(), shape, tracer)?;
-    on_first_element(rt, edge, sample, shape, tracer)
+    case.load(sample, buffers::numbers(), tracer)?;
+    on_first_element(case, sample, tracer)
 }
 
 // 8: no such element; after one that is there.
@@ -126,16 +115,14 @@ fn elements(rt: &impl Print) -> io::Result<()> {
         ("i usize maximum", usize::MAX, 0),
         ("j usize maximum", 0, usize::MAX),
     ] {
-        with_element(rt, edge, i, j)?;
+        with_element(&Case::new(rt, edge, buffers::pair()), i, j)?;
     }
     Ok(())
 }
 
-fn with_element(rt: &impl Print, edge: &str, i: usize, j: usize) -> io::Result<()> {
-    let shape = buffers::pair();
+fn with_element(case: &Case<impl Print>, i: usize, j: usize) -> io::Result<()> {
     for way in [Way::East, Way::North] {
-        let face = calls::face(way, i, j, 5);
-        calls::wind(rt, edge, buffers::winds(), shape, face)?;
+        case.wind(buffers::winds(), calls::face(way, i, j, 5))?;
     }
-    on_element(rt, edge, buffers::sample(), shape, calls::at(0, i, j))
+    on_element(case, buffers::sample(), calls::at(0, i, j))
 }

@@ -1,4 +1,5 @@
-// An admitted shape, and where its numbers stand in the buffers. The methods are leaves.
+// An admitted shape, and where its numbers stand in the buffers. The methods are leaves. An element is lent as tracer, i and j, which its callers have
+// from calls that name them so.
 ghost use Rattle.std.specs.Prelude.{◌≡◌, ◌+◌, ◌*◌, ◌≤◌, ◌<◌};
 ghost use Rattle.rules.specs.Field.{quadratic, elements, faces, elements_length, part_length, field_length, Admitted};
 ghost use Rattle.rules.specs.Grid.{face_index};

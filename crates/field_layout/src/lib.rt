@@ -14,23 +14,15 @@ pub use grid::Grid;
 fn from_1_to(most: usize, n: usize) -> bool
     ensures { result ≡ from1to most n }
 {
-    if n < 1 {
-        return false;
-    }
-    n <= most
+    (1..=most).contains(&n)
 }
 
 // Whether nx and ny are from 1 to 64 and there are 1 to 8 tracers.
+#[tactic(auto, unfolding(rules::specs::Field::admitted))]
 pub fn admitted(shape: Shape) -> bool
     ensures { result ≡ admitted shape }
 {
-    if !from_1_to(64, shape.nx) {
-        return false;
-    }
-    if !from_1_to(64, shape.ny) {
-        return false;
-    }
-    from_1_to(8, shape.tracers)
+    from_1_to(64, shape.nx) && from_1_to(64, shape.ny) && from_1_to(8, shape.tracers)
 }
 
 // Whether there is an element (i, j).
@@ -40,15 +32,9 @@ pub fn on_grid(shape: Shape, i: usize, j: usize) -> bool
     i < shape.nx && j < shape.ny
 }
 
-// The least wind number.
-const LEAST_WIND: i16 = -1024;
-
 // Whether a wind number is from -1024 to 1024.
 pub fn wind_in_range(c: i16) -> bool
     ensures { result ≡ wind_in_range c }
 {
-    if c < LEAST_WIND {
-        return false;
-    }
-    c <= 1024
+    (-1024..=1024).contains(&c)
 }

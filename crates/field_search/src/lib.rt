@@ -68,7 +68,8 @@ pub fn search<N: Numbers>(numbers: &N, grid: Grid) -> Result<u64, Refusal>
 {
     let Shape { nx, ny, .. } = grid.shape;
     let mut sum = 0;
-    // Labelled loops by rows, elements and numbers are document 01's form. A `for` that is left by a label has no value: so a flag, beside the sum.
+    // Labelled loops by rows, elements and numbers, left by a label and by no `return`, are document 01's form. A `for` that is left so has no
+    // value: hence a flag, beside the sum.
     let mut sound = true;
     let mut start = 0;
     'rows: for j in 0..ny {

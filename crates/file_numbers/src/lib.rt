@@ -31,6 +31,7 @@ pub trait Stored: Copy {
     ghost laws: { StoredLaws SIZE number bytes };
 }
 
+// Two impls with the same bodies but for the type: std's byte methods belong to each type and to no trait, and `rt ci` takes no impl from a macro.
 impl Stored for u32 {
     const SIZE: usize = 4;
 
@@ -71,7 +72,8 @@ impl Stored for i16 {
     }
 }
 
-// The u64 at place `at`. A place, as the format has it: a wind record's two numbers are those at its places 1 and 9.
+// The u64 at place `at`. A place, as the format has it: a wind record's two numbers are those at its places 1 and 9. No `Stored`, since no file
+// stores a u64: a trait's `write`, and laws for it, would have no user.
 pub fn number64(bytes: &[u8], at: usize) -> u64
     requires { at + 8 ≤ length bytes.now }
     ensures { result ≡ number64 bytes.now at }

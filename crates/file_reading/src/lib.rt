@@ -48,6 +48,7 @@ pub fn read(file: &[u8], field: &mut [u32], wind: &mut [i16]) -> Result<Shape, R
     ensures { ReadGives quadratic file.now field.old wind.old (answers result) field.new wind.new }
 {
     let tail = tail::read_tail(file);
+    // By let .. else, and by no `?`: document 01 names this form.
     let Ok(shape) = tail else {
         return tail;
     };

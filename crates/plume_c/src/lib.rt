@@ -1,6 +1,7 @@
 // Calls for C: numbers and buffers in, a number out. include/plume.h declares them.
 // An answer is 0 where the call is accepted, else the refusal's number; a reading's is its number, or the refusal's number negated.
-// What each gives is what the call of the library gives, told by these numbers.
+// What each gives is what the call of the library gives, told by these numbers. Shape, element and face are lent number by number, since C has no
+// type of the library's.
 #![tactic(auto)]
 
 ghost use Rattle.rules.specs.Field.{quadratic};
@@ -8,8 +9,6 @@ ghost use Rattle.rules.specs.Calls.{load, emission, withdrawal, mass_reading, to
 ghost use Rattle.rules.specs.FieldFile.{ReadGives, WriteGives};
 ghost use Rattle.rules.specs.Map.{MapGives};
 ghost use Rattle.c_numbers.specs.Numbers.{shape_of, face_of, coded, numbered, shaped};
-
-use rules::Shape;
 
 // Zeros in field and wind.
 #[unsafe(no_mangle)]
@@ -22,11 +21,7 @@ pub extern "C" fn plume_fresh(
 ) -> u8
     ensures { FreshGives quadratic (shape_of nx ny smokes) field.old wind.old (coded result) field.new wind.new }
 {
-    let shape = Shape {
-        nx,
-        ny,
-        tracers: smokes,
-    };
+    let shape = c_numbers::shape(nx, ny, smokes);
     c_numbers::code(field::fresh(field, wind, shape))
 }
 
@@ -44,11 +39,7 @@ pub extern "C" fn plume_wind(
 ) -> u8
     ensures { WindGives (shape_of nx ny smokes) (one_face (face_of way i j c)) wind.old (coded result) wind.new }
 {
-    let shape = Shape {
-        nx,
-        ny,
-        tracers: smokes,
-    };
+    let shape = c_numbers::shape(nx, ny, smokes);
     let face = c_numbers::face(way, i, j, c);
     c_numbers::code(field::wind(wind, shape, face))
 }
@@ -64,11 +55,7 @@ pub extern "C" fn plume_import(
 ) -> u8
     ensures { WindGives (shape_of nx ny smokes) (from_records records.now) wind.old (coded result) wind.new }
 {
-    let shape = Shape {
-        nx,
-        ny,
-        tracers: smokes,
-    };
+    let shape = c_numbers::shape(nx, ny, smokes);
     c_numbers::code(wind_import::import(wind, records, shape))
 }
 
@@ -84,11 +71,7 @@ pub extern "C" fn plume_load(
 ) -> u8
     ensures { CallGives quadratic (shape_of nx ny smokes) smoke (load numbers.now) field.old (coded result) field.new }
 {
-    let shape = Shape {
-        nx,
-        ny,
-        tracers: smokes,
-    };
+    let shape = c_numbers::shape(nx, ny, smokes);
     c_numbers::code(field::load(field, numbers, shape, smoke))
 }
 
@@ -106,11 +89,7 @@ pub extern "C" fn plume_emission(
 ) -> u8
     ensures { CallGives quadratic (shape_of nx ny smokes) smoke (emission i j q) field.old (coded result) field.new }
 {
-    let shape = Shape {
-        nx,
-        ny,
-        tracers: smokes,
-    };
+    let shape = c_numbers::shape(nx, ny, smokes);
     c_numbers::code(field::emission(field, shape, smoke, i, j, q))
 }
 
@@ -128,11 +107,7 @@ pub extern "C" fn plume_withdrawal(
 ) -> u8
     ensures { CallGives quadratic (shape_of nx ny smokes) smoke (withdrawal i j q) field.old (coded result) field.new }
 {
-    let shape = Shape {
-        nx,
-        ny,
-        tracers: smokes,
-    };
+    let shape = c_numbers::shape(nx, ny, smokes);
     c_numbers::code(field::withdrawal(field, shape, smoke, i, j, q))
 }
 
@@ -150,11 +125,7 @@ pub extern "C" fn plume_step(
 ) -> u8
     ensures { StepGives quadratic (shape_of nx ny smokes) smoke field.old wind.now report.old work.old (coded result) field.new report.new work.new }
 {
-    let shape = Shape {
-        nx,
-        ny,
-        tracers: smokes,
-    };
+    let shape = c_numbers::shape(nx, ny, smokes);
     c_numbers::code(step::step(field, wind, report, work, shape, smoke))
 }
 
@@ -171,11 +142,7 @@ pub extern "C" fn plume_mass(
 ) -> i64
     ensures { numbered result (mass_reading quadratic (shape_of nx ny smokes) smoke i j field.now) }
 {
-    let shape = Shape {
-        nx,
-        ny,
-        tracers: smokes,
-    };
+    let shape = c_numbers::shape(nx, ny, smokes);
     c_numbers::number_or(field::mass(field, shape, smoke, i, j))
 }
 
@@ -190,11 +157,7 @@ pub extern "C" fn plume_total(
 ) -> i64
     ensures { numbered result (total_reading quadratic (shape_of nx ny smokes) smoke field.now) }
 {
-    let shape = Shape {
-        nx,
-        ny,
-        tracers: smokes,
-    };
+    let shape = c_numbers::shape(nx, ny, smokes);
     c_numbers::number_or(field::total(field, shape, smoke))
 }
 
@@ -210,11 +173,7 @@ pub extern "C" fn plume_map(
 ) -> i64
     ensures { MapGives quadratic (shape_of nx ny smokes) smoke field.now page.old (numbered result) page.new }
 {
-    let shape = Shape {
-        nx,
-        ny,
-        tracers: smokes,
-    };
+    let shape = c_numbers::shape(nx, ny, smokes);
     c_numbers::number_or(map::map(page, field, shape, smoke))
 }
 
@@ -238,10 +197,6 @@ pub extern "C" fn plume_write(
 ) -> i64
     ensures { WriteGives quadratic (shape_of nx ny smokes) field.now wind.now file.old (numbered result) file.new }
 {
-    let shape = Shape {
-        nx,
-        ny,
-        tracers: smokes,
-    };
+    let shape = c_numbers::shape(nx, ny, smokes);
     c_numbers::number_or(file_writing::write(file, field, wind, shape))
 }

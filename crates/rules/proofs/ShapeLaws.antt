@@ -3,7 +3,6 @@ use mathlib.Core.Path.{◌≡◌, sym, subst}
 use mathlib.Core.Bool.{true}
 use Prim.Native.Nat.{ℕ, ◌+◌, ◌*◌, ◌≤◌, ◌<◌}
 use native.Mathlib.Nat.{mul-le-mul, mul-le-mul_left, mul-le-mul_right, mul_comm, mul-one, suc-mul}
-use native.Mathlib.Numerals.{add-one}
 use native.Mathlib.Omega.{arith}
 use lib.Dec.{T, leb, leb→le}
 use Rattle.whole.proofs.Cases.{both_yes}
@@ -40,9 +39,6 @@ module _ (g : Shape) where
 -- a row below ny has room for nx elements, and the next row starts after them
 pub row_room : (nx ny j : ℕ) → j < ny → j * nx + nx ≤ nx * ny
 row_room nx ny j h = omega (arith, mul-le-mul_right nx h, suc-mul j nx, mul_comm nx ny)
-
-pub row_more : (nx j : ℕ) → (j + 1) * nx ≡ j * nx + nx
-row_more nx j = rw (add-one j) (suc-mul j nx)
 
 -- the last row ends with the last element
 pub all-rows : (g : Shape) (j : ℕ) → j ≡ g.ny → j * g.nx ≡ elements g

@@ -64,7 +64,7 @@ impl Winds {
 }
 
 // The bytes of a record whose kind byte is this one; of no known kind the kind byte alone. It takes a byte and no `Kind`, because the
-// definition of the records gives a byte of no kind its length, too.
+// definition of the records gives a byte of no kind its length, too. No call needs it; it stays for what it promises.
 pub fn record_length(kind: u8) -> usize
     ensures { result ≡ record_length kind }
 {
