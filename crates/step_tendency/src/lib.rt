@@ -38,9 +38,9 @@ struct Ends {
 
 // A line of nodes: its first one, and how much further the next one stands.
 #[derive(Clone, Copy)]
-struct Line {
-    start: usize,
-    stride: usize,
+pub struct Line {
+    pub start: usize,
+    pub stride: usize,
 }
 
 // The three lines that go one way: line b starts at step b and goes on by stride. The upwind values of the lines' first ends stand
