@@ -23,7 +23,7 @@ use Rattle.rules.proofs.StageBounds.{quadratic-bounded, place_wind-within, line_
 use Rattle.rules.proofs.QuadraticLaws.{line-weight-le}
 use Rattle.rules.specs.Sizes.{stage_size}
 use Rattle.step_tendency.specs.Sizes.{place_wind_size, line_sum_size, advection_size}
-use Rattle.step_tendency.specs.Line.{weighed_wind, along_line, with_ends, line_at, line_nodes, shifts, combined, local_tendency}
+use Rattle.step_tendency.specs.Line.{weighed_wind, along_line, with_ends, line_at, line_nodes, shifts, node_tendency, local_tendency}
 
 -- ---- the code's tables
 abbrev pub west_shares : List ℤ
@@ -114,10 +114,10 @@ shift_is k h = eqb→eq _ _ (all-at 9 (λ k. eqb (2 ^ get_or shifts k 0) (8192 *
 turned : (k : ℕ) → k < 9 → (3 * (k % 3) + k / 3 < 9) × ((3 * (k % 3) + k / 3) / 3 ≡ k % 3) × ((3 * (k % 3) + k / 3) % 3 ≡ k / 3)
 turned k h = (omega arith, omega arith, omega arith)
 
-pub combined-is : (v c u : List ℤ) (k : ℕ) → k < 9
-    → combined (table 9 (line_nodes v (at c 0) (at c 1) u 0 3 1)) (table 9 (line_nodes v (at c 2) (at c 3) u 6 1 3)) k ≡ local_tendency (at v) (at c) (at u) k
+pub node_tendency-is : (v c u : List ℤ) (k : ℕ) → k < 9
+    → node_tendency (table 9 (line_nodes v (at c 0) (at c 1) u 0 3 1)) (table 9 (line_nodes v (at c 2) (at c 3) u 6 1 3)) k ≡ local_tendency (at v) (at c) (at u) k
 unfolding local_tendency line_nodes quadratic
-combined-is v c u k h =
+node_tendency-is v c u k h =
     let m = 3 * (k % 3) + k / 3 in
     let t = turned k h in
     let ex : (q : ℕ) → 3 * (k / 3) + 1 * q ≡ 3 * (k / 3) + q = λ q. omega arith in
@@ -128,6 +128,6 @@ combined-is v c u k h =
     ∙ (λ i. advection quadratic (λ q. at v (ey q i)) (at c 2) (at c 3) (at u (6 + t.1 i)) (at u (9 + t.1 i)) (t.2 i)) in
     λ i. floor_div (pos (quadratic.line_weight (k / 3)) *ℤ x i +ℤ pos (quadratic.line_weight (k % 3)) *ℤ y i) (shift_is k h i)
 
-pub all-combined : (v c u : List ℤ)
-    → table 9 (combined (table 9 (line_nodes v (at c 0) (at c 1) u 0 3 1)) (table 9 (line_nodes v (at c 2) (at c 3) u 6 1 3))) ≡ table 9 (local_tendency (at v) (at c) (at u))
-all-combined v c u = table-cong 9 _ _ (combined-is v c u)
+pub all-node_tendencies : (v c u : List ℤ)
+    → table 9 (node_tendency (table 9 (line_nodes v (at c 0) (at c 1) u 0 3 1)) (table 9 (line_nodes v (at c 2) (at c 3) u 6 1 3))) ≡ table 9 (local_tendency (at v) (at c) (at u))
+all-node_tendencies v c u = table-cong 9 _ _ (node_tendency-is v c u)

@@ -44,5 +44,5 @@ abbrev pub shifts : List ℕ
 shifts = 13 ∷ 15 ∷ 13 ∷ 15 ∷ 17 ∷ 15 ∷ 13 ∷ 15 ∷ 13 ∷ []
 
 -- the tendency at node k, from X and Y at every node
-abbrev pub combined : List ℤ → List ℤ → ℕ → ℤ
-combined x y k = floor_div (pos (quadratic.line_weight (k / 3)) *ℤ at x k +ℤ pos (quadratic.line_weight (k % 3)) *ℤ at y (3 * (k % 3) + k / 3)) (2 ^ get_or shifts k 0)
+abbrev pub node_tendency : List ℤ → List ℤ → ℕ → ℤ
+node_tendency x y k = floor_div (pos (quadratic.line_weight (k / 3)) *ℤ at x k +ℤ pos (quadratic.line_weight (k % 3)) *ℤ at y (3 * (k % 3) + k / 3)) (2 ^ get_or shifts k 0)

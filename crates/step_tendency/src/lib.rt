@@ -7,7 +7,7 @@ ghost use Rattle.whole.specs.Bound.{Within, Are, AllWithin};
 ghost use Rattle.whole.specs.Table.{table, at};
 ghost use Rattle.rules.specs.Sizes.{stage_size};
 ghost use Rattle.step_tendency.specs.Sizes.{place_wind_size, line_sum_size, end_size, line_size, advection_size};
-ghost use Rattle.step_tendency.specs.Line.{weighed_wind, along_line, with_ends, line_nodes, combined, local_tendency};
+ghost use Rattle.step_tendency.specs.Line.{weighed_wind, along_line, with_ends, line_nodes, node_tendency, local_tendency};
 
 use rules::element::{NODES, SIDE, line_weight};
 use std::array;
@@ -29,7 +29,33 @@ const DERIVATIVE: [i64; NODES] = [-3, 4, -1, -1, 0, 1, 1, -4, 3];
 // 8192 times a node's weight is 2 to this power.
 const SHIFTS: [u32; NODES] = [13, 15, 13, 15, 17, 15, 13, 15, 13];
 
-// A number for the first end of a line of nodes, and one for the last.
+// The winds of the two faces at the ends of a line of nodes.
+#[derive(Clone, Copy)]
+struct EndWinds {
+    first: i64,
+    last: i64,
+    ghost first_in_range: { Within 1024 first },
+    ghost last_in_range: { Within 1024 last },
+}
+
+impl EndWinds {
+    // The wind at place q between the two faces, times the place's weight.
+    fn weighed(self, q: usize) -> i64
+        requires { q < 3 }
+        ensures { result ≡ weighed_wind self.first self.last q }
+    {
+        line_weight(q) * (WEST_SHARES[q] * self.first + EAST_SHARES[q] * self.last)
+    }
+
+    // The same at each place.
+    fn at_places(self) -> [i64; SIDE]
+        ensures { result ≡ table 3 (weighed_wind self.first self.last) }
+    {
+        array::from_fn(|q| self.weighed(q))
+    }
+}
+
+// What crosses the faces at the two ends of a line of nodes.
 #[derive(Clone, Copy)]
 struct Ends {
     first: i64,
@@ -43,45 +69,28 @@ pub struct Line {
     pub stride: usize,
 }
 
-// The three lines that go one way: line b starts at step b and goes on by stride. The upwind values of the lines' first ends stand
-// from place side on, those of their last ends three places further.
+// One of the two ways that an element's lines go: line b starts at step b and goes on by stride. The upwind values of the lines'
+// first ends stand from place side on, those of their last ends three places further.
 #[derive(Clone, Copy)]
-struct LinesOneWay {
+struct Way {
     side: usize,
     step: usize,
     stride: usize,
+    ghost sides_inside: { side ≤ 6 },
+    ghost nodes_inside: { 2 * step + 2 * stride < 9 },
 }
 
-const EASTWARD: LinesOneWay = LinesOneWay {
+const EASTWARD: Way = Way {
     side: 0,
     step: SIDE,
     stride: 1,
 };
 
-const NORTHWARD: LinesOneWay = LinesOneWay {
+const NORTHWARD: Way = Way {
     side: 2 * SIDE,
     step: 1,
     stride: SIDE,
 };
-
-// The wind at place q between two faces, times the place's weight.
-fn weighed_wind(winds: Ends, q: usize) -> i64
-    requires within { Within 1024 winds.first }
-    requires within_2 { Within 1024 winds.last }
-    requires place_bound { q < 3 }
-    ensures { result ≡ weighed_wind winds.first winds.last q }
-{
-    line_weight(q) * (WEST_SHARES[q] * winds.first + EAST_SHARES[q] * winds.last)
-}
-
-// The same at each place.
-fn place_winds(winds: Ends) -> [i64; SIDE]
-    requires within { Within 1024 winds.first }
-    requires within_2 { Within 1024 winds.last }
-    ensures { result ≡ table 3 (weighed_wind winds.first winds.last) }
-{
-    array::from_fn(|q| weighed_wind(winds, q))
-}
 
 // The sum over a line of nodes, at one place of it.
 fn along(c: &[i64; SIDE], v: &[i64; NODES], line: Line, place: usize) -> i64
@@ -112,57 +121,53 @@ fn with_ends(sum: i64, place: usize, ends: Ends) -> i64
     }
 }
 
-// Document 01's X (or Y) at node k of the lines that go one way, from the winds c of the places between the two faces.
-fn line_node(
-    c: &[i64; SIDE],
-    v: &[i64; NODES],
-    winds: Ends,
-    u: &[i64; UPWIND_VALUES],
-    way: LinesOneWay,
-    k: usize,
-) -> i64
-    requires c_value { c.now ≡ table 3 (weighed_wind winds.first winds.last) }
-    requires all_within { AllWithin stage_size v.now }
-    requires within { Within 1024 winds.first }
-    requires within_2 { Within 1024 winds.last }
-    requires all_within_2 { AllWithin stage_size u.now }
-    requires side_bound { way.side ≤ 6 }
-    requires stride_bound { 2 * way.step + 2 * way.stride < 9 }
-    requires node_bound { k < 9 }
-    ensures { result ≡ line_nodes v.now winds.first winds.last u.now way.side way.step way.stride k }
-{
-    let b = k / SIDE;
-    let line = Line {
-        start: way.step * b,
-        stride: way.stride,
-    };
-    let first = 12 * winds.first * u[way.side + b];
-    let last = 12 * winds.last * u[way.side + SIDE + b];
-    let place = k % SIDE;
-    with_ends(along(c, v, line, place), place, Ends { first, last })
+// The three lines of an element that go one way: the element's nine values, the winds of the faces at the lines' ends, and the upwind
+// values of its four faces.
+#[derive(Clone, Copy)]
+struct Lines<'a> {
+    v: &'a [i64; NODES],
+    winds: EndWinds,
+    u: &'a [i64; UPWIND_VALUES],
+    way: Way,
+    ghost values_small: { AllWithin stage_size v.now },
+    ghost upwind_small: { AllWithin stage_size u.now },
 }
 
-// The same at every node.
-fn lines(v: &[i64; NODES], winds: Ends, u: &[i64; UPWIND_VALUES], way: LinesOneWay) -> [i64; NODES]
-    requires all_within { AllWithin stage_size v.now }
-    requires within { Within 1024 winds.first }
-    requires within_2 { Within 1024 winds.last }
-    requires all_within_2 { AllWithin stage_size u.now }
-    requires side_bound { way.side ≤ 6 }
-    requires stride_bound { 2 * way.step + 2 * way.stride < 9 }
-    ensures value { result ≡ table 9 (line_nodes v.now winds.first winds.last u.now way.side way.step way.stride) }
-    ensures small { AllWithin advection_size result }
-{
-    let c = place_winds(winds);
-    array::from_fn(|k| line_node(&c, v, winds, u, way, k))
+impl Lines<'_> {
+    // Document 01's X (or Y) at node k, from the winds c of the places between the two faces.
+    fn node(self, c: &[i64; SIDE], k: usize) -> i64
+        requires c_value { c.now ≡ table 3 (weighed_wind self.winds.first self.winds.last) }
+        requires node_bound { k < 9 }
+        ensures { result ≡ line_nodes self.entry.v.now self.entry.winds.first self.entry.winds.last self.entry.u.now self.entry.way.side self.entry.way.step self.entry.way.stride k }
+    {
+        let way = self.way;
+        let b = k / SIDE;
+        let line = Line {
+            start: way.step * b,
+            stride: way.stride,
+        };
+        let first = 12 * self.winds.first * self.u[way.side + b];
+        let last = 12 * self.winds.last * self.u[way.side + SIDE + b];
+        let place = k % SIDE;
+        with_ends(along(c, self.v, line, place), place, Ends { first, last })
+    }
+
+    // The same at every node.
+    fn nodes(self) -> [i64; NODES]
+        ensures value { result ≡ table 9 (line_nodes self.entry.v.now self.entry.winds.first self.entry.winds.last self.entry.u.now self.entry.way.side self.entry.way.step self.entry.way.stride) }
+        ensures small { AllWithin advection_size result }
+    {
+        let c = self.winds.at_places();
+        array::from_fn(|k| self.node(&c, k))
+    }
 }
 
 // The tendency at node k, from X and Y at every node.
-fn combined(x: &[i64; NODES], y: &[i64; NODES], k: usize) -> i64
+fn node_tendency(x: &[i64; NODES], y: &[i64; NODES], k: usize) -> i64
     requires all_within { AllWithin advection_size x.now }
     requires all_within_2 { AllWithin advection_size y.now }
     requires node_bound { k < 9 }
-    ensures { result ≡ combined x.now y.now k }
+    ensures { result ≡ node_tendency x.now y.now k }
 {
     let a = k % SIDE;
     let b = k / SIDE;
@@ -178,23 +183,25 @@ pub fn tendencies(v: &[i64; NODES], c: &[i64; 4], u: &[i64; UPWIND_VALUES]) -> [
     ensures { result ≡ table 9 (local_tendency (at v.now) (at c.now) (at u.now)) }
 {
     let [west, east, south, north] = *c;
-    let x = lines(
+    let x = Lines {
         v,
-        Ends {
+        winds: EndWinds {
             first: west,
             last: east,
         },
         u,
-        EASTWARD,
-    );
-    let y = lines(
+        way: EASTWARD,
+    }
+    .nodes();
+    let y = Lines {
         v,
-        Ends {
+        winds: EndWinds {
             first: south,
             last: north,
         },
         u,
-        NORTHWARD,
-    );
-    array::from_fn(|k| combined(&x, &y, k))
+        way: NORTHWARD,
+    }
+    .nodes();
+    array::from_fn(|k| node_tendency(&x, &y, k))
 }
