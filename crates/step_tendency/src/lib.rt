@@ -92,21 +92,6 @@ const NORTHWARD: Way = Way {
     stride: SIDE,
 };
 
-// The sum over a line of nodes, at one place of it.
-fn along(c: &[i64; SIDE], v: &[i64; NODES], line: Line, place: usize) -> i64
-    requires all_within { AllWithin place_wind_size c.now }
-    requires all_within_2 { AllWithin stage_size v.now }
-    requires stride_bound { line.start + 2 * line.stride < 9 }
-    requires place_bound { place < 3 }
-    ensures { Are line_sum_size result (along_line c.now v.now line.start line.stride place) }
-{
-    let mut x = 0;
-    for (q, wind) in c.iter().enumerate() {
-        x += wind * v[line.start + line.stride * q] * DERIVATIVE[SIDE * q + place];
-    }
-    x
-}
-
 // The sum with what crosses the faces at the line's two ends.
 fn with_ends(sum: i64, place: usize, ends: Ends) -> i64
     requires within { Within line_sum_size sum }
@@ -134,6 +119,21 @@ struct Lines<'a> {
 }
 
 impl Lines<'_> {
+    // The sum over a line of nodes, at one place of it.
+    fn along(self, c: &[i64; SIDE], line: Line, place: usize) -> i64
+        requires all_within { AllWithin place_wind_size c.now }
+        requires stride_bound { line.start + 2 * line.stride < 9 }
+        requires place_bound { place < 3 }
+        ensures { Are line_sum_size result (along_line c.now self.entry.v.now line.start line.stride place) }
+    {
+        c.iter()
+            .enumerate()
+            .map(|(q, wind)| {
+                wind * self.v[line.start + line.stride * q] * DERIVATIVE[SIDE * q + place]
+            })
+            .sum()
+    }
+
     // Document 01's X (or Y) at node k, from the winds c of the places between the two faces.
     fn node(self, c: &[i64; SIDE], k: usize) -> i64
         requires c_value { c.now ≡ table 3 (weighed_wind self.winds.first self.winds.last) }
@@ -149,7 +149,7 @@ impl Lines<'_> {
         let first = 12 * self.winds.first * self.u[way.side + b];
         let last = 12 * self.winds.last * self.u[way.side + SIDE + b];
         let place = k % SIDE;
-        with_ends(along(c, self.v, line, place), place, Ends { first, last })
+        with_ends(self.along(c, line, place), place, Ends { first, last })
     }
 
     // The same at every node.
