@@ -7,7 +7,7 @@ ghost use Rattle.whole.specs.Bound.{Within, Are, AllWithin};
 ghost use Rattle.whole.specs.Table.{table, at};
 ghost use Rattle.rules.specs.Sizes.{stage_size};
 ghost use Rattle.step_tendency.specs.Sizes.{place_wind_size, line_sum_size, end_size, line_size, advection_size};
-ghost use Rattle.step_tendency.specs.Line.{weighed_wind, along_line, with_ends, line_nodes, node_tendency, local_tendency};
+ghost use Rattle.step_tendency.specs.Line.{weighed_wind, along_line, with_ends, node_tendency, local_tendency};
 
 use rules::element::{NODES, SIDE, line_weight};
 use std::array;
@@ -119,6 +119,8 @@ struct Lines<'a> {
 }
 
 impl Lines<'_> {
+    ghost use Rattle.step_tendency.specs.Lines.{node_advection};
+
     // The sum over a line of nodes, at one place of it.
     fn along(self, c: &[i64; SIDE], line: Line, place: usize) -> i64
         requires all_within { AllWithin place_wind_size c.now }
@@ -138,7 +140,7 @@ impl Lines<'_> {
     fn node(self, c: &[i64; SIDE], k: usize) -> i64
         requires c_value { c.now ≡ table 3 (weighed_wind self.winds.first self.winds.last) }
         requires node_bound { k < 9 }
-        ensures { result ≡ line_nodes self.entry.v.now self.entry.winds.first self.entry.winds.last self.entry.u.now self.entry.way.side self.entry.way.step self.entry.way.stride k }
+        ensures { result ≡ node_advection self.entry k }
     {
         let way = self.way;
         let b = k / SIDE;
@@ -154,7 +156,7 @@ impl Lines<'_> {
 
     // The same at every node.
     fn nodes(self) -> [i64; NODES]
-        ensures value { result ≡ table 9 (line_nodes self.entry.v.now self.entry.winds.first self.entry.winds.last self.entry.u.now self.entry.way.side self.entry.way.step self.entry.way.stride) }
+        ensures value { result ≡ table 9 (node_advection self.entry) }
         ensures small { AllWithin advection_size result }
     {
         let c = self.winds.at_places();
