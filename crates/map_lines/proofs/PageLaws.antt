@@ -7,8 +7,8 @@ use Rattle.rules.specs.declared.Shape.{Shape}
 use Rattle.rules.specs.Field.{quadratic, Admitted}
 use Rattle.rules.specs.Map.{block_count, page_length}
 use Rattle.rules.proofs.MapLaws.{row_small, lines-few}
-use Rattle.map_lines.specs.PageLines.{There}
-use Rattle.map_lines.specs.PageNumbers.{page_part, numbers}
+use Rattle.map_lines.specs.PageLines.{There, line_number}
+use Rattle.map_lines.specs.PageNumbers.{page_part}
 use Rattle.map_lines.specs.declared.TracerPage.{TracerPage}
 use Rattle.map_lines.specs.declared.BlockLine.{BlockLine}
 use Rattle.map_lines.specs.declared.BlockLine.TheVariants.{Header, Row}
@@ -18,9 +18,9 @@ pub row-there : (g : Shape) (l : BlockLine) {j : ℕ} → l ≡ Row j → There 
 row-there g l e t = subst (There g) e t
 
 -- the number of a line has ten digits at most
-pub numbers-small : (p : TracerPage) (l : BlockLine) → There p.grid.shape l → (i : ℕ) → i < p.grid.shape.nx → numbers p l i < 10 ^ 10
-numbers-small p Header t i c = omega (arith, p.grid.admitted.nx-small)
-numbers-small p (Row j) t i c = row_small quadratic p.grid.shape (page_part p) p.grid.admitted p.printable.small j t i c
+pub number-small : (p : TracerPage) (l : BlockLine) → There p.grid.shape l → (i : ℕ) → i < p.grid.shape.nx → line_number p.grid.shape (page_part p) l i < 10 ^ 10
+number-small p Header t i c = omega (arith, p.grid.admitted.nx-small)
+number-small p (Row j) t i c = row_small quadratic p.grid.shape (page_part p) p.grid.admitted p.printable.small j t i c
 
 -- a page is its blocks and the line of the sum
 pub page-is : (g : Shape) → block_count g * ((g.ny + 1) * 74) + 74 ≡ page_length g

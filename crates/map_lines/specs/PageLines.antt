@@ -1,5 +1,6 @@
 -- What the functions that add a page's lines ask for, and the text of a line by its case.
 use Rattle.std.specs.Prelude.{List, ℕ, ◌≤◌, ◌<◌, length}
+use Rattle.std.specs.Coded.{Unit-prop, le_prop}
 use Rattle.rules.specs.declared.Shape.{Shape}
 use Rattle.rules.specs.Field.{quadratic, element, field_length, part, mass, total, limit}
 use Rattle.rules.specs.Text.{decimal, blanks, right_aligned}
@@ -16,6 +17,11 @@ pub record Printable (g : Shape) (s : ℕ) (field : List ℕ) : Type 0 where
 abbrev pub There : Shape → BlockLine → Type 0
 There g Header = Unit {0}
 There g (Row j) = j < g.ny
+
+-- at most one proof of it, so that a struct can hold it
+pub There-prop : (g : Shape) (l : BlockLine) → IsProp (There g l)
+There-prop g Header = Unit-prop
+There-prop g (Row j) = le_prop
 
 -- what comes before the columns of a line
 abbrev pub line_first : BlockLine → List ℕ

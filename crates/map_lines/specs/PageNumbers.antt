@@ -1,8 +1,8 @@
 -- The numbers of a tracer's page.
 use Rattle.std.specs.Prelude.{List, ℕ}
 use Rattle.rules.specs.Field.{quadratic, part}
-use Rattle.map_lines.specs.declared.BlockLine.{BlockLine}
 use Rattle.map_lines.specs.declared.TracerPage.{TracerPage}
+use Rattle.map_lines.specs.declared.PageLine.{PageLine}
 use Rattle.map_lines.specs.PageLines.{line_number}
 
 -- the tracer's part of the field
@@ -10,5 +10,5 @@ abbrev pub page_part : TracerPage → List ℕ
 page_part p = part quadratic p.grid.shape p.tracer p.field.now
 
 -- the number of a line in column i
-abbrev pub numbers : TracerPage → BlockLine → ℕ → ℕ
-numbers p line i = line_number p.grid.shape (page_part p) line i
+abbrev pub numbers : PageLine → ℕ → ℕ
+numbers l i = line_number l.page.grid.shape (page_part l.page) l.line i

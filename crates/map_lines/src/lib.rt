@@ -1,7 +1,6 @@
-// The page of a map, as a text: its blocks, and the line of the sum. Each function is a leaf; those that add to a text ask for room and for a
-// tracer that can be printed. `page` and `page_length` are what the call uses. A place becomes a u64 by `as`: std has no `From` for it, and a
-// `try_from` would add an unwrap that can never fail. Blocks, rows and columns are counted, since their numbers are
-// handed on.
+// The page of a map, as a text: its blocks, and the line of the sum. Each function is a leaf; those that add to a text ask for room, and `page`
+// for a tracer that can be printed. `page` and `page_length` are what the call uses. A place becomes a u64 by `as`: std has no `From` for it,
+// and a `try_from` would add an unwrap that can never fail. Blocks, rows and columns are counted, since their numbers are handed on.
 #![tactic(auto)]
 
 ghost use Rattle.std.specs.Prelude.{◌≡◌, ◌+◌, ◌*◌, ◌≤◌, ◌<◌, length};
@@ -9,7 +8,7 @@ ghost use Rattle.rules.specs.Field.{quadratic, part, total, limit};
 ghost use Rattle.rules.specs.Map.{block_count, column_text, block_line, block_text, sum_line, page_text, page_length};
 ghost use Rattle.text.specs.Added.{Added};
 ghost use Rattle.text.specs.Adds.{Adds, HasRoom};
-ghost use Rattle.map_lines.specs.PageLines.{Printable, There, line_first, line_number};
+ghost use Rattle.map_lines.specs.PageLines.{Printable, There, There-prop, line_first};
 
 use field_layout::Grid;
 use text::Text;
@@ -53,60 +52,69 @@ pub(crate) struct TracerPage<'a> {
     ghost printable: { Printable grid.shape tracer field.now },
 }
 
-impl TracerPage<'_> {
-    ghost use Rattle.map_lines.specs.PageNumbers.{page_part, numbers};
+// A page and one of its lines: the first one of a block, or that of a row that the grid has.
+#[derive(Clone, Copy)]
+pub(crate) struct PageLine<'a> {
+    page: TracerPage<'a>,
+    line: BlockLine,
+    ghost there: { There page.grid.shape line } by { There-prop page.grid.shape line },
+}
 
-    // What comes before the columns of a line.
-    fn first(&self, text: &mut Text, line: BlockLine)
-        requires there { There self.now.grid.shape line }
-        requires room { HasRoom 3 text.old }
-        ensures { Adds 3 (line_first line) text.old text.new }
+impl PageLine<'_> {
+    ghost use Rattle.map_lines.specs.PageNumbers.{numbers};
+
+    // What comes before the columns.
+    fn first(&self, text: &mut Text)
+        requires { HasRoom 3 text.old }
+        ensures { Adds 3 (line_first self.now.line) text.old text.new }
     {
-        match line {
+        match self.line {
             BlockLine::Header => text.blanks(FIRST),
             BlockLine::Row(j) => text.right_aligned(FIRST, j as u64),
         }
     }
 
-    // A line's number in column i.
-    fn number(&self, line: BlockLine, i: usize) -> u64
-        requires there { There self.now.grid.shape line }
-        requires i_lt_nx { i < self.now.grid.shape.nx }
-        ensures { result ≡ numbers self.now line i }
+    // The number in column i.
+    fn number(&self, i: usize) -> u64
+        requires { i < self.now.page.grid.shape.nx }
+        ensures { result ≡ numbers self.now i }
     {
-        match line {
+        let page = self.page;
+        match self.line {
             BlockLine::Header => i as u64,
-            BlockLine::Row(j) => field::element_mass(self.field, self.grid, self.tracer, i, j),
+            BlockLine::Row(j) => field::element_mass(page.field, page.grid, page.tracer, i, j),
         }
     }
 
-    // Column i of a line: its number, or blanks where the grid has no such column.
-    fn column(&self, text: &mut Text, line: BlockLine, i: usize)
-        requires there { There self.now.grid.shape line }
-        requires room { HasRoom 10 text.old }
-        ensures { Adds 10 (column_text self.now.grid.shape (numbers self.now line) i) text.old text.new }
+    // Column i: the line's number, or blanks where the grid has no such column.
+    fn column(&self, text: &mut Text, i: usize)
+        requires { HasRoom 10 text.old }
+        ensures { Adds 10 (column_text self.now.page.grid.shape (numbers self.now) i) text.old text.new }
     {
-        if i < self.grid.shape.nx {
-            text.right_aligned(WIDTH, self.number(line, i));
+        if i < self.page.grid.shape.nx {
+            text.right_aligned(WIDTH, self.number(i));
         } else {
             text.blanks(WIDTH);
         }
     }
 
-    // A line of block b.
-    fn line(&self, text: &mut Text, b: usize, line: BlockLine)
-        requires there { There self.now.grid.shape line }
-        requires b_bound { b < block_count self.now.grid.shape }
+    // The line of block b.
+    fn block_line(&self, text: &mut Text, b: usize)
+        requires b_bound { b < block_count self.now.page.grid.shape }
         requires room { HasRoom 74 text.old }
-        ensures { Adds 74 (block_line self.now.grid.shape (line_first line) (numbers self.now line) b) text.old text.new }
+        ensures { Adds 74 (block_line self.now.page.grid.shape (line_first self.now.line) (numbers self.now) b) text.old text.new }
     {
         let west = COLUMNS * b;
-        self.first(text, line);
+        self.first(text);
         for c in 0..COLUMNS {
-            self.column(text, line, west + c);
+            self.column(text, west + c);
         }
         text.newline();
     }
+}
+
+impl TracerPage<'_> {
+    ghost use Rattle.map_lines.specs.PageNumbers.{page_part};
 
     // Block b: its first line, and the rows from the northmost on.
     fn block(&self, text: &mut Text, b: usize)
@@ -114,9 +122,17 @@ impl TracerPage<'_> {
         requires room { HasRoom ((self.now.grid.shape.ny + 1) * 74) text.old }
         ensures { Adds ((self.now.grid.shape.ny + 1) * 74) (block_text quadratic self.now.grid.shape (page_part self.now) b) text.old text.new }
     {
-        self.line(text, b, BlockLine::Header);
+        let header = PageLine {
+            page: *self,
+            line: BlockLine::Header,
+        };
+        header.block_line(text, b);
         for j in (0..self.grid.shape.ny).rev() {
-            self.line(text, b, BlockLine::Row(j));
+            let row = PageLine {
+                page: *self,
+                line: BlockLine::Row(j),
+            };
+            row.block_line(text, b);
         }
     }
 }

@@ -9,7 +9,7 @@ pub loop-j-init : goal.loop-j-init
 loop-j-init c =
     let ny = c.args.self.now.grid.shape.ny in
     let e : 0 ≡ ny - ny = omega arith in
-    rw (← e) (blocks-none 74 _ c.line.new.text (room c.line.ensures 0 (omega (arith, c.requires.room))))
+    rw (← e) (blocks-none 74 _ c.block_line.new.text (room c.block_line.ensures 0 (omega (arith, c.requires.room))))
 
 pub loop-j-preserved : goal.loop-j-preserved
 unfolding row_line
@@ -18,7 +18,7 @@ loop-j-preserved c =
     let ny = c.args.self.now.grid.shape.ny in
     let next : ny - l.j + 1 ≡ ny - (l.j - 1) = omega arith in
     let row : l.j - 1 ≡ ny - (ny - l.j + 1) = omega arith in
-    rw (← next) (block_more 74 _ l.invariant (rw row at c.line-in-loop-j.ensures))
+    rw (← next) (block_more 74 _ l.invariant (rw row at c.block_line-in-loop-j.ensures))
 
 pub returns : goal.returns
 unfolding block_text header_line
@@ -26,4 +26,4 @@ returns c =
     let l = c.loop-j in
     let ny = c.args.self.now.grid.shape.ny in
     let e : ny - l.j ≡ ny = omega arith in
-    wider (then c.line.ensures (rw e at l.invariant)) ((ny + 1) * 74) (omega arith)
+    wider (then c.block_line.ensures (rw e at l.invariant)) ((ny + 1) * 74) (omega arith)

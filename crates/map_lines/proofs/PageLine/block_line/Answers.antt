@@ -3,11 +3,11 @@ use native.Mathlib.Omega.{arith}
 use Rattle.rules.specs.Map.{block_line}
 use Rattle.rules.proofs.MapLaws.{block-starts}
 use Rattle.text.proofs.AddsLaws.{room, then, blocks-none, block_more}
-use Rattle.map_lines.proofs.TracerPage.line.Goals as goal
+use Rattle.map_lines.proofs.PageLine.block_line.Goals as goal
 
 pub overflow_mul-west : goal.overflow_mul-west
 overflow_mul-west c =
-    record { fits = omega (arith, block-starts c.args.self.now.grid.shape c.args.b c.requires.b_bound, c.args.self.now.grid.admitted.nx-small) }
+    record { fits = omega (arith, block-starts c.args.self.now.page.grid.shape c.args.b c.requires.b_bound, c.args.self.now.page.grid.admitted.nx-small) }
 
 pub loop-c-init : goal.loop-c-init
 loop-c-init c =
@@ -15,7 +15,7 @@ loop-c-init c =
 
 pub overflow_add-west : goal.overflow_add-west
 overflow_add-west c =
-    record { fits = omega (arith, block-starts c.args.self.now.grid.shape c.args.b c.requires.b_bound, c.args.self.now.grid.admitted.nx-small) }
+    record { fits = omega (arith, block-starts c.args.self.now.page.grid.shape c.args.b c.requires.b_bound, c.args.self.now.page.grid.admitted.nx-small) }
 
 pub loop-c-preserved : goal.loop-c-preserved
 loop-c-preserved c =
