@@ -28,7 +28,7 @@ use Rattle.rules.specs.Program.{grid_line, face_line, face_row, face_lines, tota
 use Rattle.rules.proofs.StepLaws.{report-length}
 use Rattle.text.specs.declared.Text.{Text}
 use Rattle.text.specs.Adds.{Adds, HasRoom}
-use Rattle.text.proofs.AddsLaws.{none-added, wider, then, room}
+use Rattle.text.proofs.AddsLaws.{none-added, wider, then}
 use Rattle.rules.proofs.GridLaws.{face-lt}
 use Rattle.output.specs.AddedLines.{tracer_room, LinesAdded, AddedOrRefused}
 use Rattle.step.proofs.CheckLaws.{stepping, plain-refused, report-accepted}
@@ -75,6 +75,10 @@ module _ (g : Shape) (wind : List ℤ) (s : ℕ) (field : List ℕ) (rl wl : ℕ
     answers : stepped g wind s field ≡ rest c.field (record { report = rep })
     answers = stepped-is ∙ ap (λ a. next a (rest c.field)) (stepping g s field wind rl wl e).answers
 
+    -- the report has room for its lines
+    pub reports : faces g ≤ rl
+    reports = (stepping g s field wind rl wl e).reports
+
     pub total-refused : (n : ℕ) (after : List ℕ) → after ≡ c.field → total_reading quadratic g s after ≡ refused n → stepped g wind s field ≡ refused n
     total-refused n after f q = answers ∙ ap (λ x. rest x (record { report = rep })) (sym f) ∙ ap (λ a. next a (λ total. accepted (record { text = tracer_lines g s rep total; field = after }))) q
 
@@ -82,12 +86,12 @@ module _ (g : Shape) (wind : List ℤ) (s : ℕ) (field : List ℕ) (rl wl : ℕ
     lines-accepted t after f q = answers ∙ ap (λ x. rest x (record { report = rep })) (sym f) ∙ ap (λ a. next a (λ total. accepted (record { text = tracer_lines g s rep total; field = after }))) q
 
     -- the lines that are printed from the report buffer
-    pub lines_are : (t : ℕ) (old new : List ℤ) → new ≡ report_after c.reply old → faces g ≤ length old → tracer_lines g s new t ≡ tracer_lines g s rep t
+    pub lines_are : (t : ℕ) (old new : List ℤ) → new ≡ report_after c.reply old → length old ≡ rl → tracer_lines g s new t ≡ tracer_lines g s rep t
     unfolding tracer_step
-    lines_are t old new q room =
+    lines_are t old new q long =
         let p = stepping g s field wind rl wl e in
         ap (λ l. tracer_lines g s l t) (q ∙ sym (report-accepted c.reply (record { report = rep }) old p.answers))
-        ∙ lines-kept g s t rep old (report-length quadratic g p.shape.nx-above p.shape.ny-above (wind_at wind) (part quadratic g s field) (stages quadratic g (wind_at wind) (part quadratic g s field))) room
+        ∙ lines-kept g s t rep old (report-length quadratic g p.shape.nx-above p.shape.ny-above (wind_at wind) (part quadratic g s field) (stages quadratic g (wind_at wind) (part quadratic g s field))) (omega (arith, long, p.reports))
 
 -- ---- all tracers: after the line of the grid, the lines of the first s of them are added
 pub record TracersAdded (g : Shape) (wind : List ℤ) (s : ℕ) (first now' : List ℕ) (old new : Text) : Type 0 where

@@ -4,7 +4,7 @@ use mathlib.Core.Path.{◌∙◌}
 use Rattle.text.proofs.AddedLaws.{front-added}
 use Rattle.text.proofs.AddsLaws.{given_back}
 use Rattle.output.proofs.TextLaws.{lines_at, refusal_at}
-use Rattle.output.proofs.fill.Goals as goal
+use Rattle.output.proofs.Buffers.fill.Goals as goal
 
 pub returns-in-Ok-clause-out_after : goal.returns-in-Ok-clause-out_after
 returns-in-Ok-clause-out_after c =
