@@ -14,31 +14,39 @@ use field_layout::Grid;
 use program_file::{ELEMENTS, SMOKES};
 use rules::element::NUMBERS;
 
-// One tracer's page at the front of the buffer, and its bytes.
-fn page(out: &mut [u8], field: &[u32], grid: Grid, tracer: usize) -> usize
-    requires sound_field { SoundField grid.shape field.now }
-    requires tracer_lt_tracers { tracer < grid.shape.tracers }
-    requires shape_in_bounds { page_length grid.shape ≤ length out.old }
-    ensures { Added (page_length grid.shape) 0 (page_text quadratic grid.shape (part quadratic grid.shape tracer field.now)) out.old out.new result }
-{
-    match map::map(out, field, grid.shape, tracer) {
-        Ok(n) => n as usize, // by `as`: std has no `From` from u64 to usize, and a `try_from` would add an unwrap that can never fail
-        Err(_) => unreachable!(), // the map of a sound field is never refused
-    }
+// A field every tracer of which is sound: no page of it is refused.
+#[derive(Clone, Copy)]
+struct FieldPages<'a> {
+    field: &'a [u32],
+    grid: Grid,
+    ghost sound: { SoundField grid.shape field.now },
 }
 
-// The pages of all tracers, in order. Counted, since each tracer's number is handed on, and with the place where the next page starts:
-// of pages that `chunks_exact_mut` has lent a proof knows nothing afterwards.
-fn pages(out: &mut [u8], field: &[u32], grid: Grid) -> usize
-    requires sound_field { SoundField grid.shape field.now }
-    requires shape_in_bounds { grid.shape.tracers * page_length grid.shape ≤ length out.old }
-    ensures { Added (grid.shape.tracers * page_length grid.shape) 0 (blocks grid.shape.tracers (λ s. page_text quadratic grid.shape (part quadratic grid.shape s field.now))) out.old out.new result }
-{
-    let mut end = 0;
-    for s in 0..grid.shape.tracers {
-        end += page(&mut out[end..], field, grid, s);
+impl FieldPages<'_> {
+    // One tracer's page at the front of the buffer, and its bytes.
+    fn page(&self, out: &mut [u8], tracer: usize) -> usize
+        requires tracer_lt_tracers { tracer < self.now.grid.shape.tracers }
+        requires shape_in_bounds { page_length self.now.grid.shape ≤ length out.old }
+        ensures { Added (page_length self.now.grid.shape) 0 (page_text quadratic self.now.grid.shape (part quadratic self.now.grid.shape tracer self.now.field.now)) out.old out.new result }
+    {
+        match map::map(out, self.field, self.grid.shape, tracer) {
+            Ok(n) => n as usize, // by `as`: std has no `From` from u64 to usize, and a `try_from` would add an unwrap that can never fail
+            Err(_) => unreachable!(), // the map of a sound field is never refused
+        }
     }
-    end
+
+    // The pages of all tracers, in order. Counted, since each tracer's number is handed on, and with the place where the next page starts:
+    // of pages that `chunks_exact_mut` has lent a proof knows nothing afterwards.
+    fn pages(&self, out: &mut [u8]) -> usize
+        requires { self.now.grid.shape.tracers * page_length self.now.grid.shape ≤ length out.old }
+        ensures { Added (self.now.grid.shape.tracers * page_length self.now.grid.shape) 0 (blocks self.now.grid.shape.tracers (λ s. page_text quadratic self.now.grid.shape (part quadratic self.now.grid.shape s self.now.field.now))) out.old out.new result }
+    {
+        let mut end = 0;
+        for s in 0..self.grid.shape.tracers {
+            end += self.page(&mut out[end..], s);
+        }
+        end
+    }
 }
 
 // What the program prints for a file, and its length. A leaf: the output has room for the pages of eight tracers of 2 by 64 elements, the
@@ -53,6 +61,12 @@ pub fn print(file: &[u8], out: &mut [u8]) -> usize
     let mut wind = [0i16; 2 * ELEMENTS];
     match program_file::read(file, &mut field, &mut wind) {
         Err(r) => program_file::refusal(out, r),
-        Ok(shape) => pages(out, &field, Grid { shape }),
+        Ok(shape) => {
+            let sound = FieldPages {
+                field: &field,
+                grid: Grid { shape },
+            };
+            sound.pages(out)
+        }
     }
 }

@@ -5,25 +5,36 @@ use Rattle.rules.specs.Answers.{answered}
 use Rattle.rules.specs.Field.{quadratic, element_length}
 use Rattle.rules.specs.Program.{text_of, field_lent, wind_lent, printed_for, pages, map_output}
 use Rattle.rules.proofs.ShapeLaws.{ranges}
-use Rattle.file_layout.proofs.ReplyLaws.{read-shown}
+use Rattle.file_layout.proofs.ReplyLaws.{Readable, read-shown}
 use Rattle.text.proofs.AddedLaws.{same_bytes}
 use Rattle.program_file.proofs.PrintedLaws.{file-read, field-taken, refused-printed, text-printed, text-given}
 use Rattle.output_maps.specs.SoundField.{SoundField}
 use Rattle.output_maps.proofs.PagesLaws.{read-sound, pages-fit}
 use Rattle.output_maps.proofs.print.Goals as goal
+use Rattle.output_maps.proofs.print.Goals.{In-Ok}
 
--- the shape of a file that was read has a grid
-pub invariant_of-pages : goal.invariant_of-pages
-invariant_of-pages c =
+-- what the file that was read has shown
+shown : (c : In-Ok) → Readable quadratic c.in-Ok.shape c.args.file.now field_lent wind_lent
+unfolding field_lent element_length quadratic
+shown c =
+    read-shown quadratic c.in-Ok.shape c.args.file.now _ _ (file-read c.args.file.now _ _ c.in-Ok.shape (sym c.read.ensures.0 ∙ ap answered c.in-Ok.is))
+
+-- its shape has a grid
+pub invariant_of-sound : goal.invariant_of-sound
+invariant_of-sound c = record { admitted = ranges c.in-Ok.shape (shown (goal.at.invariant_of-sound c).In-Ok).ranges }
+
+-- the field that it left is sound
+pub invariant_of-sound-in-Ok : goal.invariant_of-sound-in-Ok
+unfolding field_lent element_length quadratic
+invariant_of-sound-in-Ok c =
     let g = c.in-Ok.shape in
-    record { admitted = ranges g (read-shown quadratic g c.args.file.now _ _ (file-read c.args.file.now _ _ g (sym c.read.ensures.0 ∙ ap answered c.in-Ok.is))).ranges }
+    let taken = c.read.ensures.1.0 ∙ field-taken c.args.file.now _ _ g (sym c.read.ensures.0 ∙ ap answered c.in-Ok.is) in
+    record { sound = subst (SoundField g) (sym taken) (read-sound g c.args.file.now _ _ (shown (goal.at.invariant_of-sound-in-Ok c).In-Ok)) }
 
 pub pages-requires : goal.pages-requires
 pages-requires c =
-    let g = c.in-Ok.shape in
-    let e = sym c.read.ensures.0 ∙ ap answered c.in-Ok.is in
-    let s = read-shown quadratic g c.args.file.now _ _ (file-read c.args.file.now _ _ g e) in
-    record { sound_field = subst (SoundField g) (sym (c.read.ensures.1.0 ∙ field-taken c.args.file.now _ _ g e)) (read-sound g c.args.file.now _ _ s); shape_in_bounds = omega (arith, pages-fit g (ranges g s.ranges) s.wind-room, c.requires) }
+    let s = shown (goal.at.pages-requires c).In-Ok in
+    omega (arith, pages-fit c.in-Ok.shape (ranges c.in-Ok.shape s.ranges) s.wind-room, c.requires)
 
 pub returns-in-Err : goal.returns-in-Err
 unfolding map_output printed_for field_lent element_length quadratic

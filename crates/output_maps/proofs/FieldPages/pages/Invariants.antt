@@ -4,7 +4,7 @@ use Rattle.whole.specs.Table.{blocks}
 use Rattle.rules.specs.Field.{quadratic, part}
 use Rattle.rules.specs.Map.{page_text, page_length}
 use Rattle.text.specs.Added.{Added}
-use Rattle.output_maps.proofs.pages.Given as goal
+use Rattle.output_maps.proofs.FieldPages.pages.Given as goal
 
 abbrev pub invariant-loop-s : goal.invariant-loop-s
-invariant-loop-s l = (l.s ≤ l.s-end) × Added (l.s * page_length l.grid.shape) 0 (blocks l.s (λ k. page_text quadratic l.grid.shape (part quadratic l.grid.shape k l.field))) l.initial.out l.out l.end
+invariant-loop-s l = (l.s ≤ l.s-end) × Added (l.s * page_length l.self.grid.shape) 0 (blocks l.s (λ k. page_text quadratic l.self.grid.shape (part quadratic l.self.grid.shape k l.self.field.now))) l.initial.out l.out l.end
