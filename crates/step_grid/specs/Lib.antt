@@ -1,2 +1,2 @@
--- What the grid's leaves ask.
+-- What the grid's leaves answer.
 pub mod Place

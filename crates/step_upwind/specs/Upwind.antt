@@ -1,14 +1,15 @@
 -- Where upwind values stand in a stage that is a list, nine numbers an element.
-use Rattle.std.specs.Prelude.{cond, List, [], ◌∷◌, ℕ, ◌+◌, ◌*◌, ◌/◌, ◌%◌, ◌≤◌, ◌<◌, ℤ, pos, negsuc, length, get_or}
+use Rattle.std.specs.Prelude.{cond, List, [], ◌∷◌, map, ℕ, ◌+◌, ◌*◌, ◌/◌, ◌%◌, ◌≤◌, ◌<◌, ℤ, pos, negsuc, length, get_or}
 use Rattle.std.specs.Int.Signed.{non_neg}
 use Rattle.whole.specs.Table.{table, at}
 use Rattle.whole.specs.Bound.{Within}
 use Rattle.rules.specs.declared.Shape.{Shape}
-use Rattle.rules.specs.Field.{elements, faces, north_face}
+use Rattle.rules.specs.Field.{elements, faces}
 use Rattle.rules.specs.Grid.{west, east, south, north}
 use Rattle.rules.specs.Calls.{wind_at}
+use Rattle.step_grid.specs.Place.{side_faces}
 
--- how many numbers a stage has; a list as one, and the first n numbers of one as a list
+-- how many numbers a stage has; the first n numbers of one as a list, and a list as one
 abbrev pub stage_length : Shape → ℕ
 stage_length g = elements g * 9
 
@@ -25,7 +26,7 @@ pub record WindsInRange (g : Shape) (wind : List ℤ) : Type 0 where
 
 -- the winds of an element's west, east, south and north face
 abbrev pub side_winds : Shape → (ℕ → ℤ) → ℕ → List ℤ
-side_winds g c e = c (west g e) ∷ c e ∷ c (north_face g (south g e)) ∷ c (north_face g e) ∷ []
+side_winds g c e = map c (side_faces g e)
 
 -- 0 for a wind that is not negative, else -1
 abbrev pub sign : ℤ → ℤ

@@ -1,5 +1,5 @@
-// Upwind values, and the tendencies of one element of the grid. A stage is lent as nine numbers an element.
-// Every function here is a leaf: the element is on the grid, the stage has its numbers, and winds and values are in their ranges.
+// Upwind values, and the tendencies of one element of the grid, of a stage under the winds that carry it.
+// Every function here is a leaf: the element is on the grid, as the face is.
 #![tactic(auto)]
 
 ghost use Rattle.std.specs.Prelude.{◌≡◌, ◌+◌, ◌≤◌, ◌<◌, length};
@@ -15,12 +15,18 @@ use field_layout::Grid;
 use rules::element::{NODES, SIDE};
 use std::array;
 use step_grid::Element;
-use step_tendency::UPWIND_VALUES;
+use step_tendency::{Line, UPWIND_VALUES};
 
-// The first node of the line at an element's east side, which goes on by SIDE, and of the line at its north side, which goes on by 1.
-pub const EAST_LINE: usize = SIDE - 1;
+// The line of nodes at an element's east side, and the one at its north side.
+pub const EAST_LINE: Line = Line {
+    start: SIDE - 1,
+    stride: SIDE,
+};
 
-pub const NORTH_LINE: usize = NODES - SIDE;
+pub const NORTH_LINE: Line = Line {
+    start: NODES - SIDE,
+    stride: 1,
+};
 
 // The winds of a grid's faces, each in its range.
 #[derive(Clone, Copy)]
@@ -89,55 +95,65 @@ fn starts(c: &[i64; 4], element: Element) -> [usize; 4]
     let south = element.south();
     let north = element.north();
     [
-        upwind_start(c[0], west, e, EAST_LINE),
-        upwind_start(c[1], e, east, EAST_LINE),
-        upwind_start(c[2], south, e, NORTH_LINE),
-        upwind_start(c[3], e, north, NORTH_LINE),
+        upwind_start(c[0], west, e, EAST_LINE.start),
+        upwind_start(c[1], e, east, EAST_LINE.start),
+        upwind_start(c[2], south, e, NORTH_LINE.start),
+        upwind_start(c[3], e, north, NORTH_LINE.start),
     ]
 }
 
-// Upwind value m of the four sides, three for each. A line goes on by SIDE at the west and the east side, by 1 at the others; a table
-// of these steps would be laid on the stack at every turn.
-fn upwind_value(phi: &[i64], starts: &[usize; 4], m: usize) -> i64
-    requires reached { Reached starts.now phi.now }
-    requires m_bound { m < 12 }
-    ensures { result ≡ at phi.now (upwind_place starts.now m) }
-{
-    let side = m / SIDE;
-    let stride = SIDE - (SIDE - 1) * (side / 2);
-    phi[starts[side] + stride * (m % SIDE)]
+// A stage under the winds that carry it: nine numbers an element, each as small as the stages are.
+#[derive(Clone, Copy)]
+pub struct Stage<'a> {
+    pub values: &'a [i64],
+    pub winds: Winds<'a>,
+    ghost all_nodes: { length values.now ≡ stage_length winds.grid.shape },
+    ghost small: { AllWithin stage_size values.now },
 }
 
-// All of them.
-fn upwind_values(phi: &[i64], starts: &[usize; 4]) -> [i64; UPWIND_VALUES]
-    requires { Reached starts.now phi.now }
-    ensures { result ≡ table 12 (λ m. at phi.now (upwind_place starts.now m)) }
-{
-    array::from_fn(|m| upwind_value(phi, starts, m))
-}
+impl Stage<'_> {
+    // Upwind value m of the four sides, three for each. A line goes on by SIDE at the west and the east side, by 1 at the others; a table
+    // of these steps would be laid on the stack at every turn.
+    fn upwind_value(self, starts: &[usize; 4], m: usize) -> i64
+        requires reached { Reached starts.now self.values.now }
+        requires m_bound { m < 12 }
+        ensures { result ≡ at self.entry.values.now (upwind_place starts.now m) }
+    {
+        let side = m / SIDE;
+        let stride = SIDE - (SIDE - 1) * (side / 2);
+        self.values[starts[side] + stride * (m % SIDE)]
+    }
 
-// An element's nine values.
-fn values(phi: &[i64], start: usize) -> [i64; NODES]
-    requires { start + 9 ≤ length phi.now }
-    ensures { result ≡ table 9 (λ k. at phi.now (start + k)) }
-{
-    array::from_fn(|k| phi[start + k])
-}
+    // All of them.
+    fn upwind_values(self, starts: &[usize; 4]) -> [i64; UPWIND_VALUES]
+        requires { Reached starts.now self.values.now }
+        ensures { result ≡ table 12 (λ m. at self.entry.values.now (upwind_place starts.now m)) }
+    {
+        array::from_fn(|m| self.upwind_value(starts, m))
+    }
 
-// The tendencies of an element of a stage.
-pub fn tendencies(phi: &[i64], winds: Winds, index: usize) -> [i64; NODES]
-    requires phi_len { length phi.now ≡ stage_length winds.grid.shape }
-    requires all_within { AllWithin stage_size phi.now }
-    requires index_bound { index < elements winds.grid.shape }
-    ensures { result ≡ table 9 (tendency quadratic winds.entry.grid.shape (wind_at winds.entry.wind.now) (as_stage phi.now) index) }
-{
-    let element = Element {
-        grid: winds.grid,
-        index,
-    };
-    let c = winds.at_sides(index);
-    let s = starts(&c, element);
-    let u = upwind_values(phi, &s);
-    let v = values(phi, index * NODES);
-    step_tendency::tendencies(&v, &c, &u)
+    // An element's nine values.
+    fn values_of(self, index: usize) -> [i64; NODES]
+        requires { index < elements self.winds.grid.shape }
+        ensures { result ≡ table 9 (as_stage self.entry.values.now index) }
+    {
+        let start = index * NODES;
+        array::from_fn(|k| self.values[start + k])
+    }
+
+    // The tendencies of an element.
+    pub fn tendencies(self, index: usize) -> [i64; NODES]
+        requires { index < elements self.winds.grid.shape }
+        ensures { result ≡ table 9 (tendency quadratic self.entry.winds.grid.shape (wind_at self.entry.winds.wind.now) (as_stage self.entry.values.now) index) }
+    {
+        let element = Element {
+            grid: self.winds.grid,
+            index,
+        };
+        let c = self.winds.at_sides(index);
+        let s = starts(&c, element);
+        let u = self.upwind_values(&s);
+        let v = self.values_of(index);
+        step_tendency::tendencies(&v, &c, &u)
+    }
 }
