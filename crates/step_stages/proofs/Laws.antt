@@ -1,12 +1,15 @@
--- The stages' divisors and factors, by cases on the stage; how large an element's tendencies are.
+-- The passes' stages and their factors, by cases; how large an element's tendencies are.
 use mathlib.Core.Path.{◌≡◌, refl, sym, ap, ap₂, ◌∙◌}
-use mathlib.Core.List.{List, [], ◌∷◌}
-use mathlib.Core.Logic.{◌≢◌}
+use mathlib.Core.List.{List, []}
 use Prim.Native.Nat.{ℕ, zero, suc, ◌+◌, ◌*◌, ◌/◌, ◌%◌, ◌<◌}
 use native.Mathlib.Nat.{div-one}
 use native.Mathlib.Omega.{arith}
 use lib.IntN.{ℤ, pos, negsuc, ◌+ℤ◌, ◌*ℤ◌}
-use lib.ListN.{get_or, take, drop, get_or-map}
+use lib.ListN.{length, get_or, take, drop}
+use lib.Seq.{length-take-le}
+use Rattle.std.specs.Simd.{first_chunks}
+use Rattle.std.proofs.lemmas.List.{get_or-take}
+use Rattle.whole.proofs.ListParts.{chunk-at}
 use Rattle.whole.specs.Table.{table, at}
 use Rattle.whole.proofs.BoundLaws.{within-le, within-pos, within-add, within-mul}
 use Rattle.whole.proofs.TableLaws.{get_d-table, table-cong, table-all}
@@ -23,31 +26,20 @@ use mir.Val.{to_z, of_z}
 use Rattle.whole.proofs.Sizes.{exacts, exact}
 use Rattle.whole.proofs.OverwriteLaws.{part_at}
 use Rattle.whole.specs.Bound.{Within, Are, AllWithin, floor_div}
-use Rattle.step_stages.specs.Advance.{factor, divisor, new_value, new_sums, new_values}
+use Rattle.step_stages.specs.declared.Pass.{Pass}
+use Rattle.step_stages.specs.declared.Pass.TheVariants.{First, Second, Third}
+use Rattle.step_stages.specs.Advance.{from_stage, factor, new_value, new_sums, new_values}
 
 -- ---- the divisors
 pub floor-one : (z : ℤ) → floor_div z 1 ≡ z
 floor-one (pos a) = ap pos (div-one a)
 floor-one (negsuc a) = ap negsuc (div-one a)
 
-pub divided-0 : (z : ℤ) (m : ℕ) → m ≡ 0 → z ≡ floor_div z (divisor m)
-divided-0 z m e = rw e (sym (floor-one z))
-
-pub divided-1 : (z : ℤ) (m : ℕ) → m ≡ 1 → floor_div z 4 ≡ floor_div z (divisor m)
-divided-1 z m e = rw e refl
-
-pub divided-2 : (z : ℤ) (m : ℕ) → m < 3 → m ≢ 0 → m ≢ 1 → floor_div z 6 ≡ floor_div z (divisor m)
-divided-2 z zero h p q = absurd (p refl)
-divided-2 z (suc zero) h p q = absurd (q refl)
-divided-2 z (suc (suc zero)) h p q = refl
-divided-2 z (suc (suc (suc m))) h p q = let f : ⊥ = omega arith in absurd f
-
--- ---- the factors, as the code's table has them
-abbrev pub factors : List ℤ
-factors = pos 1 ∷ pos 1 ∷ pos 4 ∷ []
-
-pub factor-is : (m : ℕ) → get_or factors m (pos 0) ≡ pos (factor m)
-factor-is m = get_or-map pos (1 ∷ 1 ∷ 4 ∷ []) m 0
+-- ---- the passes
+pub from-small : (p : Pass) → from_stage p < 3
+from-small First = omega arith
+from-small Second = omega arith
+from-small Third = omega arith
 
 pub factor-small : (m : ℕ) → m < 3 → Within 4 (pos (factor m))
 factor-small zero h = record { within = omega arith }
@@ -69,10 +61,16 @@ value-exact a b = exact (search exacts depth 20) tt
 pub sums-lent : (p old : List ℤ) (e n k : ℕ) → drop (e * 9) p ≡ drop (e * 9) old → n ≡ 9 → k < 9 → at (take n (drop (e * 9) p)) k ≡ as_stage old e k
 sums-lent p old e n k h en lk = ap (λ l. at (take n l) k) h ∙ part_at 9 (e * 9) n old k (pos 0) en lk
 
--- ---- the stored values of an element, as its ten numbers are lent
-pub stored-lent : (p : List ℕ) (e n k : ℕ) → n ≡ 10 → k < 9 → pos (get_or (take n (drop (e * 10) p)) k 0) ≡ stage0 quadratic p e k
-unfolding stage0 cell element_length quadratic
-stored-lent p e n k ten lk = ap pos (part_at 10 (e * 10) n p k 0 ten (omega arith))
+-- ---- the elements of a part, as the library lends them by chunks of ten, and the stored values of element e
+module _ (p : List ℕ) (cs : List (List ℕ)) (n : ℕ) (long : length cs ≡ length p / 10) (all : length p ≡ n * 10) where
+  pub all-lent : length (take n cs) ≡ n
+  all-lent = length-take-le n cs (omega arith)
+
+  pub stored-lent : (e : ℕ) → e < n → cs ≡ first_chunks 10 (length p / 10) p → (k : ℕ) → k < 9 → pos (get_or (get_or (take n cs) e []) k 0) ≡ stage0 quadratic p e k
+  unfolding stage0 cell element_length quadratic
+  stored-lent e l same k lk =
+      let lent : get_or (take n cs) e [] ≡ take 10 (drop (e * 10) p) = get_or-take n cs e [] l ∙ ap (λ x. get_or x e []) same ∙ chunk-at 10 (length p / 10) e p (omega arith) in
+      ap (λ x. pos (get_or x k 0)) lent ∙ ap pos (part_at 10 (e * 10) 10 p k 0 refl (omega arith))
 
 -- ---- sizes: an element's tendencies, and the sums with them
 module _ (g : Shape) (wind from : List ℤ) (h : Admitted g) (c : WindsInRange g wind) (small : AllWithin stage_size from) where

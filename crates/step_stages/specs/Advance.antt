@@ -6,6 +6,14 @@ use Rattle.rules.specs.declared.Shape.{Shape}
 use Rattle.rules.specs.Field.{quadratic}
 use Rattle.rules.specs.Stages.{tendency}
 use Rattle.step_upwind.specs.Upwind.{as_stage}
+use Rattle.step_stages.specs.declared.Pass.{Pass}
+use Rattle.step_stages.specs.declared.Pass.TheVariants.{First, Second, Third}
+
+-- the number of the stage that a pass begins at
+abbrev pub from_stage : Pass → ℕ
+from_stage First = 0
+from_stage Second = 1
+from_stage Third = 2
 
 -- "t0", "t0 + t1", "t0 + t1 + 4·t2"; "floor(.. / 4)", "floor(.. / 6)"
 abbrev pub factor : ℕ → ℕ
