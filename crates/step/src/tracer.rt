@@ -13,8 +13,10 @@ ghost use Rattle.step.specs.Finish.{Balance, mass_of, new_element};
 
 use field_layout::Grid;
 use rules::element::{NODES, NUMBERS};
+use step_fluxes::Combined;
 use step_grid::Element;
-use step_upwind::Winds;
+use step_stages::Pass;
+use step_upwind::{Stage, Winds};
 
 // An element's target: its mass, less what leaves by its east and north face, and what comes by its west and south face.
 fn target(masses: &[i64], report: &[i32], element: Element) -> u64
@@ -70,11 +72,17 @@ pub(crate) fn step(part: &mut [u32], winds: Winds, report: &mut [i32], work: &mu
     let (outflows, _) = rest.split_at_mut(n);
     step_stages::start(phi0, part, grid);
     sums.fill(0);
-    step_stages::advance(phi1, sums, phi0, phi0, winds, 0);
-    step_stages::advance(phi2, sums, phi0, phi1, winds, 1);
-    step_stages::advance(psi, sums, phi0, phi2, winds, 2);
+    step_stages::advance(phi1, sums, phi0, Stage { phi: phi0, winds }, Pass::First);
+    step_stages::advance(phi2, sums, phi0, Stage { phi: phi1, winds }, Pass::Second);
+    step_stages::advance(psi, sums, phi0, Stage { phi: phi2, winds }, Pass::Third);
     step_fluxes::combine(sums, phi0, phi1, phi2); // over the sums, which nothing reads any more
-    step_fluxes::fluxes(fluxes, sums, winds);
+    step_fluxes::fluxes(
+        fluxes,
+        Combined {
+            values: sums,
+            winds,
+        },
+    );
     step_correction::masses(masses, part);
     step_correction::outflows(outflows, fluxes, grid);
     step_correction::limit(report, fluxes, outflows, masses, grid);

@@ -15,6 +15,7 @@ ghost use Rattle.step_fluxes.specs.Face.{combined, line_sum, face_flux};
 
 use rules::element::{SIDE, line_weight};
 use step_grid::Face;
+use step_tendency::Line;
 use step_upwind::{EAST_LINE, NORTH_LINE, Winds};
 
 // The stages' values as a face sums them, at every node. All three have the same donors, so that their sum has its upwind values, too.
@@ -32,20 +33,6 @@ pub fn combine(values: &mut [i64], first: &[i64], second: &[i64], third: &[i64])
     }
 }
 
-// The sum over a line of nodes, which stand at start, start + stride, ..: each value by its node's weight.
-fn line_sum(values: &[i64], start: usize, stride: usize) -> i64
-    requires stride_bound { start + 2 * stride < length values.now }
-    requires all_within { AllWithin (6 * stage_size) values.now }
-    ensures { Are face_sum_size result (line_sum values.now start stride) }
-{
-    let mut sum: i64 = 0;
-    // By number: a node's number gives its weight and its place.
-    for r in 0..SIDE {
-        sum += line_weight(r) * values[start + stride * r];
-    }
-    sum
-}
-
 // The flux of a face with wind c and that sum: their product divided by 4096, to the nearest whole number, the even one at a half.
 // 4095 / 8192 added before rounding down take what is above a half up, and leave a half at the number below it; where that number is odd,
 // 4096 / 8192 take the half up, too.
@@ -59,44 +46,66 @@ fn flux_of(c: i64, sum: i64) -> i64
     (2 * product + 4095 + odd) >> 13
 }
 
-// The line of nodes at a face: its first node in the element behind, and how much further the next one stands.
-fn line(face: Face) -> (usize, usize)
-    ensures last { result.0 ≡ cond (looks_east face.grid.shape face.index) 2 6 }
-    ensures stride { result.1 ≡ cond (looks_east face.grid.shape face.index) 3 1 }
+// The line of nodes at a face, in the element behind.
+fn line(face: Face) -> Line
+    ensures start { result.start ≡ cond (looks_east face.grid.shape face.index) 2 6 }
+    ensures stride { result.stride ≡ cond (looks_east face.grid.shape face.index) 3 1 }
 {
     if face.looks_east() {
-        (EAST_LINE, SIDE)
+        EAST_LINE
     } else {
-        (NORTH_LINE, 1)
+        NORTH_LINE
     }
 }
 
-// The flux of a face.
-fn face_flux(values: &[i64], winds: Winds, index: usize) -> i64
-    requires values_len { length values.now ≡ stage_length winds.grid.shape }
-    requires all_within { AllWithin (6 * stage_size) values.now }
-    requires index_bound { index < faces winds.grid.shape }
-    ensures { Are flux_size result (face_flux winds.entry.grid.shape (wind_at winds.entry.wind.now) values.now index) }
-{
-    let face = Face {
-        grid: winds.grid,
-        index,
-    };
-    let c = winds.at_face(index);
-    let (behind, ahead) = face.ends();
-    let (last, stride) = line(face);
-    let start = step_upwind::upwind_start(c, behind, ahead, last);
-    flux_of(c, line_sum(values, start, stride))
+// The stages' combined values under the winds that carried them: nine numbers an element, as a stage has them. A struct of its own beside
+// `Stage`, since a number here is as large as six of a stage's.
+#[derive(Clone, Copy)]
+pub struct Combined<'s, 'w> {
+    pub values: &'s [i64],
+    pub winds: Winds<'w>,
+    ghost all_nodes: { length values.now ≡ stage_length winds.grid.shape },
+    ghost small: { AllWithin (6 * stage_size) values.now },
+}
+
+impl Combined<'_, '_> {
+    // The sum over a line of nodes: each value by its node's weight.
+    fn line_sum(self, line: Line) -> i64
+        requires { line.start + 2 * line.stride < length self.values.now }
+        ensures { Are face_sum_size result (line_sum self.entry.values.now line.start line.stride) }
+    {
+        let mut sum: i64 = 0;
+        // By number: a node's number gives its weight and its place.
+        for r in 0..SIDE {
+            sum += line_weight(r) * self.values[line.start + line.stride * r];
+        }
+        sum
+    }
+
+    // The flux of a face.
+    fn face_flux(self, index: usize) -> i64
+        requires { index < faces self.winds.grid.shape }
+        ensures { Are flux_size result (face_flux self.entry.winds.grid.shape (wind_at self.entry.winds.wind.now) self.entry.values.now index) }
+    {
+        let face = Face {
+            grid: self.winds.grid,
+            index,
+        };
+        let c = self.winds.at_face(index);
+        let (behind, ahead) = face.ends();
+        let line = line(face);
+        let start = step_upwind::upwind_start(c, behind, ahead, line.start);
+        let stride = line.stride;
+        flux_of(c, self.line_sum(Line { start, stride }))
+    }
 }
 
 // The fluxes of all faces.
-pub fn fluxes(fluxes: &mut [i64], values: &[i64], winds: Winds)
-    requires fluxes_len { length fluxes.old ≡ faces winds.grid.shape }
-    requires values_len { length values.now ≡ stage_length winds.grid.shape }
-    requires all_within { AllWithin (6 * stage_size) values.now }
-    ensures { fluxes.new ≡ table (faces winds.entry.grid.shape) (face_flux winds.entry.grid.shape (wind_at winds.entry.wind.now) values.now) }
+pub fn fluxes(fluxes: &mut [i64], combined: Combined)
+    requires { length fluxes.old ≡ faces combined.winds.grid.shape }
+    ensures { fluxes.new ≡ table (faces combined.entry.winds.grid.shape) (face_flux combined.entry.winds.grid.shape (wind_at combined.entry.winds.wind.now) combined.entry.values.now) }
 {
     for (index, flux) in fluxes.iter_mut().enumerate() {
-        *flux = face_flux(values, winds, index);
+        *flux = combined.face_flux(index);
     }
 }

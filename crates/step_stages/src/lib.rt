@@ -91,9 +91,9 @@ fn add(sums: &mut [i64], t: &[i64; NODES], times: i64)
 
 // The sums of all elements with the tendencies of a stage.
 fn add_tendencies(sums: &mut [i64], from: Stage, pass: Pass)
-    requires sums_len { length sums.old ≡ length from.values.now }
+    requires sums_len { length sums.old ≡ length from.phi.now }
     requires all_within { AllWithin earlier_sum_size sums.old }
-    ensures { sums.new ≡ listed (stage_length from.entry.winds.grid.shape) (new_sums from.entry.winds.grid.shape (wind_at from.entry.winds.wind.now) (from_stage pass) sums.old from.entry.values.now) }
+    ensures { sums.new ≡ listed (stage_length from.entry.winds.grid.shape) (new_sums from.entry.winds.grid.shape (wind_at from.entry.winds.wind.now) (from_stage pass) sums.old from.entry.phi.now) }
 {
     let n = from.winds.grid.elements();
     let times = pass.factor();
@@ -120,13 +120,13 @@ fn set_values(next: &mut [i64], first: &[i64], sums: &[i64], pass: Pass)
 
 // From a stage to the next one: the sums with its tendencies, and from them and stage 0 the next one's values.
 pub fn advance(next: &mut [i64], sums: &mut [i64], first: &[i64], from: Stage, pass: Pass)
-    requires next_len { length next.old ≡ length from.values.now }
-    requires sums_len { length sums.old ≡ length from.values.now }
+    requires next_len { length next.old ≡ length from.phi.now }
+    requires sums_len { length sums.old ≡ length from.phi.now }
     requires all_within { AllWithin earlier_sum_size sums.old }
-    requires first_len { length first.now ≡ length from.values.now }
+    requires first_len { length first.now ≡ length from.phi.now }
     requires all_within_2 { AllWithin limit first.now }
-    ensures sums_after { sums.new ≡ listed (stage_length from.entry.winds.grid.shape) (new_sums from.entry.winds.grid.shape (wind_at from.entry.winds.wind.now) (from_stage pass) sums.old from.entry.values.now) }
-    ensures next_after { next.new ≡ listed (stage_length from.entry.winds.grid.shape) (new_values from.entry.winds.grid.shape (wind_at from.entry.winds.wind.now) (from_stage pass) first.now sums.old from.entry.values.now) }
+    ensures sums_after { sums.new ≡ listed (stage_length from.entry.winds.grid.shape) (new_sums from.entry.winds.grid.shape (wind_at from.entry.winds.wind.now) (from_stage pass) sums.old from.entry.phi.now) }
+    ensures next_after { next.new ≡ listed (stage_length from.entry.winds.grid.shape) (new_values from.entry.winds.grid.shape (wind_at from.entry.winds.wind.now) (from_stage pass) first.now sums.old from.entry.phi.now) }
 {
     add_tendencies(sums, from, pass);
     set_values(next, first, sums, pass);

@@ -102,32 +102,33 @@ fn starts(c: &[i64; 4], element: Element) -> [usize; 4]
     ]
 }
 
-// A stage under the winds that carry it: nine numbers an element, each as small as the stages are.
+// A stage under the winds that carry it: nine numbers an element, each as small as the stages are. A stage is lent for a pass, the winds for
+// the whole step: hence two lifetimes.
 #[derive(Clone, Copy)]
-pub struct Stage<'a> {
-    pub values: &'a [i64],
-    pub winds: Winds<'a>,
-    ghost all_nodes: { length values.now ≡ stage_length winds.grid.shape },
-    ghost small: { AllWithin stage_size values.now },
+pub struct Stage<'s, 'w> {
+    pub phi: &'s [i64],
+    pub winds: Winds<'w>,
+    ghost all_nodes: { length phi.now ≡ stage_length winds.grid.shape },
+    ghost small: { AllWithin stage_size phi.now },
 }
 
-impl Stage<'_> {
+impl Stage<'_, '_> {
     // Upwind value m of the four sides, three for each. A line goes on by SIDE at the west and the east side, by 1 at the others; a table
     // of these steps would be laid on the stack at every turn.
     fn upwind_value(self, starts: &[usize; 4], m: usize) -> i64
-        requires reached { Reached starts.now self.values.now }
+        requires reached { Reached starts.now self.phi.now }
         requires m_bound { m < 12 }
-        ensures { result ≡ at self.entry.values.now (upwind_place starts.now m) }
+        ensures { result ≡ at self.entry.phi.now (upwind_place starts.now m) }
     {
         let side = m / SIDE;
         let stride = SIDE - (SIDE - 1) * (side / 2);
-        self.values[starts[side] + stride * (m % SIDE)]
+        self.phi[starts[side] + stride * (m % SIDE)]
     }
 
     // All of them.
     fn upwind_values(self, starts: &[usize; 4]) -> [i64; UPWIND_VALUES]
-        requires { Reached starts.now self.values.now }
-        ensures { result ≡ table 12 (λ m. at self.entry.values.now (upwind_place starts.now m)) }
+        requires { Reached starts.now self.phi.now }
+        ensures { result ≡ table 12 (λ m. at self.entry.phi.now (upwind_place starts.now m)) }
     {
         array::from_fn(|m| self.upwind_value(starts, m))
     }
@@ -135,16 +136,16 @@ impl Stage<'_> {
     // An element's nine values.
     fn values_of(self, index: usize) -> [i64; NODES]
         requires { index < elements self.winds.grid.shape }
-        ensures { result ≡ table 9 (as_stage self.entry.values.now index) }
+        ensures { result ≡ table 9 (as_stage self.entry.phi.now index) }
     {
         let start = index * NODES;
-        array::from_fn(|k| self.values[start + k])
+        array::from_fn(|k| self.phi[start + k])
     }
 
     // The tendencies of an element.
     pub fn tendencies(self, index: usize) -> [i64; NODES]
         requires { index < elements self.winds.grid.shape }
-        ensures { result ≡ table 9 (tendency quadratic self.entry.winds.grid.shape (wind_at self.entry.winds.wind.now) (as_stage self.entry.values.now) index) }
+        ensures { result ≡ table 9 (tendency quadratic self.entry.winds.grid.shape (wind_at self.entry.winds.wind.now) (as_stage self.entry.phi.now) index) }
     {
         let element = Element {
             grid: self.winds.grid,

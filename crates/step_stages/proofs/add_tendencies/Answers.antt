@@ -30,7 +30,7 @@ inside c = omega (arith, c.elements-n.ensures)
 pub add-requires-clause-all_within_2 : goal.add-requires-clause-all_within_2
 add-requires-clause-all_within_2 c =
     let h = c.requires in
-    subst (AllWithin tendency_size) (sym c.tendencies-t.ensures) (tendencies-small c.args.from.winds.grid.shape c.args.from.winds.wind.now c.args.from.values.now c.args.from.winds.grid.admitted c.args.from.winds.in_range c.args.from.small c.loop-index.index (inside (goal.at.add-requires-clause-all_within_2 c).In-loop-index))
+    subst (AllWithin tendency_size) (sym c.tendencies-t.ensures) (tendencies-small c.args.from.winds.grid.shape c.args.from.winds.wind.now c.args.from.phi.now c.args.from.winds.grid.admitted c.args.from.winds.in_range c.args.from.small c.loop-index.index (inside (goal.at.add-requires-clause-all_within_2 c).In-loop-index))
 
 -- the sums of a turn
 lent : (c : In-loop-index) → drop (c.loop-index.index * 9) c.loop-index.sums ≡ drop (c.loop-index.index * 9) c.args.sums.now
@@ -43,8 +43,8 @@ loop-index-preserved c =
     let g = a.from.winds.grid.shape in
     let f = wind_at a.from.winds.wind.now in
     let sub = add-sub_cancel_left (e * 9) 9 in
-    let t : (k : ℕ) → k < 9 → at c.tendencies-t.result k ≡ tendency quadratic g f (as_stage a.from.values.now) e k =
-    λ k l. ap (λ x. at x k) c.tendencies-t.ensures ∙ get_d-table 9 (tendency quadratic g f (as_stage a.from.values.now) e) k (pos 0) l in
+    let t : (k : ℕ) → k < 9 → at c.tendencies-t.result k ≡ tendency quadratic g f (as_stage a.from.phi.now) e k =
+    λ k l. ap (λ x. at x k) c.tendencies-t.ensures ∙ get_d-table 9 (tendency quadratic g f (as_stage a.from.phi.now) e) k (pos 0) l in
     let s = λ (k : ℕ) (l : k < 9). sums-lent c.loop-index.sums a.sums.now e (e * 9 + 9 - e * 9) k (lent (goal.at.loop-index-preserved c).In-loop-index) sub l in
     let times = read_back w64 c.factor-times.ensures tt in
     blocks-next (λ k. length-table 9 _) c.loop-index.invariant (omega (arith, c.elements-n.ensures)) refl sub
@@ -52,4 +52,4 @@ loop-index-preserved c =
 
 pub returns : goal.returns
 returns c = let a = c.args in
-    blocks-whole c.loop-index.invariant (omega (arith, c.elements-n.ensures)) (c.requires.sums_len ∙ c.args.from.all_nodes) ∙ blocks-table 9 (new_sums a.from.winds.grid.shape (wind_at a.from.winds.wind.now) (from_stage a.pass) a.sums.now a.from.values.now) (omega arith) (elements a.from.winds.grid.shape)
+    blocks-whole c.loop-index.invariant (omega (arith, c.elements-n.ensures)) (c.requires.sums_len ∙ c.args.from.all_nodes) ∙ blocks-table 9 (new_sums a.from.winds.grid.shape (wind_at a.from.winds.wind.now) (from_stage a.pass) a.sums.now a.from.phi.now) (omega arith) (elements a.from.winds.grid.shape)

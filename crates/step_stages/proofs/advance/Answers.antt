@@ -10,9 +10,9 @@ pub set_values-requires-clause-all_within_2 : goal.set_values-requires-clause-al
 set_values-requires-clause-all_within_2 c =
     let a = c.args in
     let h = c.requires in
-    subst (AllWithin sum_size) (sym c.add_tendencies.ensures) (sums-small a.from.winds.grid.shape a.from.winds.wind.now a.from.values.now a.from.winds.grid.admitted a.from.winds.in_range a.from.small (from_stage a.pass) a.sums.now (from-small a.pass) h.all_within)
+    subst (AllWithin sum_size) (sym c.add_tendencies.ensures) (sums-small a.from.winds.grid.shape a.from.winds.wind.now a.from.phi.now a.from.winds.grid.admitted a.from.winds.in_range a.from.small (from_stage a.pass) a.sums.now (from-small a.pass) h.all_within)
 
 pub returns-clause-next_after : goal.returns-clause-next_after
 returns-clause-next_after c =
     let a = c.args in
-    c.set_values.ensures ∙ values-are a.from.winds.grid.shape (wind_at a.from.winds.wind.now) (from_stage a.pass) _ a.first.now a.sums.now _ a.from.values.now (c.requires.next_len ∙ a.from.all_nodes) c.add_tendencies.ensures
+    c.set_values.ensures ∙ values-are a.from.winds.grid.shape (wind_at a.from.winds.wind.now) (from_stage a.pass) _ a.first.now a.sums.now _ a.from.phi.now (c.requires.next_len ∙ a.from.all_nodes) c.add_tendencies.ensures

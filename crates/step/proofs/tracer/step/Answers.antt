@@ -40,9 +40,9 @@ advance-requires-clause-all_within_2 c =
     let h = given (goal.at.advance-requires-clause-all_within_2 c).Start in
     subst (AllWithin limit) (sym (stored h c.start.ensures)) (phi0-small h)
 
-pub advance-requires-clause-all_within_3 : goal.advance-requires-clause-all_within_3
-advance-requires-clause-all_within_3 c =
-    let h = given (goal.at.advance-requires-clause-all_within_3 c).Start in
+pub invariant_of-advance-clause-small : goal.invariant_of-advance-clause-small
+invariant_of-advance-clause-small c =
+    let h = given (goal.at.invariant_of-advance-clause-small c).Start in
     subst (AllWithin stage_size) (sym (stored h c.start.ensures)) (phi-small h 0 (omega arith))
 
 pub advance-requires-2-clause-all_within : goal.advance-requires-2-clause-all_within
@@ -55,10 +55,10 @@ advance-requires-2-clause-all_within_2 c =
     let h = given (goal.at.advance-requires-2-clause-all_within_2 c).Start in
     subst (AllWithin limit) (sym ((at-1 (goal.at.advance-requires-2-clause-all_within_2 c).After-advance h).0)) (phi0-small h)
 
-pub advance-requires-2-clause-all_within_3 : goal.advance-requires-2-clause-all_within_3
-advance-requires-2-clause-all_within_3 c =
-    let h = given (goal.at.advance-requires-2-clause-all_within_3 c).Start in
-    subst (AllWithin stage_size) (sym ((at-1 (goal.at.advance-requires-2-clause-all_within_3 c).After-advance h).1.0)) (phi-small h 1 (omega arith))
+pub invariant_of-advance-2-clause-small : goal.invariant_of-advance-2-clause-small
+invariant_of-advance-2-clause-small c =
+    let h = given (goal.at.invariant_of-advance-2-clause-small c).Start in
+    subst (AllWithin stage_size) (sym ((at-1 (goal.at.invariant_of-advance-2-clause-small c).After-advance h).1.0)) (phi-small h 1 (omega arith))
 
 pub advance-requires-3-clause-all_within : goal.advance-requires-3-clause-all_within
 advance-requires-3-clause-all_within c =
@@ -70,10 +70,10 @@ advance-requires-3-clause-all_within_2 c =
     let h = given (goal.at.advance-requires-3-clause-all_within_2 c).Start in
     subst (AllWithin limit) (sym ((at-2 (goal.at.advance-requires-3-clause-all_within_2 c).After-advance-2 h).0)) (phi0-small h)
 
-pub advance-requires-3-clause-all_within_3 : goal.advance-requires-3-clause-all_within_3
-advance-requires-3-clause-all_within_3 c =
-    let h = given (goal.at.advance-requires-3-clause-all_within_3 c).Start in
-    subst (AllWithin stage_size) (sym ((at-2 (goal.at.advance-requires-3-clause-all_within_3 c).After-advance-2 h).1.1.0)) (phi-small h 2 (omega arith))
+pub invariant_of-advance-3-clause-small : goal.invariant_of-advance-3-clause-small
+invariant_of-advance-3-clause-small c =
+    let h = given (goal.at.invariant_of-advance-3-clause-small c).Start in
+    subst (AllWithin stage_size) (sym ((at-2 (goal.at.invariant_of-advance-3-clause-small c).After-advance-2 h).1.1.0)) (phi-small h 2 (omega arith))
 
 pub combine-requires-clause-all_within : goal.combine-requires-clause-all_within
 combine-requires-clause-all_within c =
@@ -91,10 +91,10 @@ combine-requires-clause-all_within_3 c =
     subst (AllWithin stage_size) (sym ((at-2 (goal.at.combine-requires-clause-all_within_3 c).After-advance-2 h).1.1.0)) (phi-small h 2 (omega arith))
 
 -- ---- what comes of them
-pub fluxes-requires-clause-all_within : goal.fluxes-requires-clause-all_within
-fluxes-requires-clause-all_within c =
-    let h = given (goal.at.fluxes-requires-clause-all_within c).Start in
-    let q = at-2 (goal.at.fluxes-requires-clause-all_within c).After-advance-2 h in
+pub invariant_of-fluxes-clause-small : goal.invariant_of-fluxes-clause-small
+invariant_of-fluxes-clause-small c =
+    let h = given (goal.at.invariant_of-fluxes-clause-small c).Start in
+    let q = at-2 (goal.at.invariant_of-fluxes-clause-small c).After-advance-2 h in
     let v = put_together h (length c.advance-3.new.sums) (omega (arith, c.split_at_mut-sums.ensures.front_len, c.elements-n.ensures)) q.0 q.1.0 q.1.1.0 c.combine.ensures in
     subst (AllWithin (6 * stage_size)) (sym v) (together-small h)
 

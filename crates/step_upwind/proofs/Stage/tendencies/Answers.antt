@@ -23,14 +23,14 @@ pub upwind_values-u-requires : goal.upwind_values-u-requires
 upwind_values-u-requires c =
     let a = c.args in
     let w = a.self.winds in
-    let h = reached w.grid.shape (wind_at w.wind.now) a.self.values.now a.index (placed (goal.at.upwind_values-u-requires c).Start) a.self.all_nodes in
-    subst (λ (s : List ℕ). Reached s a.self.values.now) (sym (begun (goal.at.upwind_values-u-requires c).After-starts-s)) h
+    let h = reached w.grid.shape (wind_at w.wind.now) a.self.phi.now a.index (placed (goal.at.upwind_values-u-requires c).Start) a.self.all_nodes in
+    subst (λ (s : List ℕ). Reached s a.self.phi.now) (sym (begun (goal.at.upwind_values-u-requires c).After-starts-s)) h
 
 pub tendencies-requires : goal.tendencies-requires
 tendencies-requires c =
     let a = c.args in
     let w = a.self.winds in
-    let l = a.self.values.now in record {
+    let l = a.self.phi.now in record {
       all_within = subst (AllWithin stage_size) (sym c.values_of-v.ensures) (picked-small 9 l (λ k. a.index * 9 + k) a.self.small);
       all_within_2 = subst (AllWithin 1024) (sym c.at_sides-c.ensures) (winds-small w.grid.shape w.wind.now a.index (placed (goal.at.tendencies-requires c).Start) w.in_range);
       all_within_3 = subst (AllWithin stage_size) (sym c.upwind_values-u.ensures) (picked-small 12 l (upwind_place c.starts-s.result) a.self.small);
@@ -40,7 +40,7 @@ pub returns : goal.returns
 returns c =
     let a = c.args in
     let w = a.self.winds in
-    let l = a.self.values.now in
+    let l = a.self.phi.now in
     let f = wind_at w.wind.now in
     let s = side_winds w.grid.shape f a.index in
     c.tendencies.ensures

@@ -5,4 +5,4 @@ use Rattle.step_upwind.specs.Upwind.{upwind_place}
 use Rattle.step_upwind.proofs.Stage.upwind_values.Goals as goal
 
 pub returns : goal.returns
-returns c = table-from_fn _ (λ m. at c.args.self.values.now (upwind_place c.args.starts.now m)) (λ k y q l h. search rules) c.from_fn.ensures.items
+returns c = table-from_fn _ (λ m. at c.args.self.phi.now (upwind_place c.args.starts.now m)) (λ k y q l h. search rules) c.from_fn.ensures.items

@@ -4,7 +4,7 @@ use Rattle.whole.specs.Bound.{Are}
 use Rattle.whole.specs.Sum.{sum_ℤ}
 use Rattle.rules.specs.Sizes.{face_sum_size}
 use Rattle.step_fluxes.proofs.Laws.{term}
-use Rattle.step_fluxes.proofs.line_sum.Given as goal
+use Rattle.step_fluxes.proofs.Combined.line_sum.Given as goal
 
 abbrev pub invariant-loop-r : goal.invariant-loop-r
-invariant-loop-r l = (l.r ≤ 3) × Are face_sum_size l.sum (sum_ℤ l.r (term l.values l.start l.stride))
+invariant-loop-r l = (l.r ≤ 3) × Are face_sum_size l.sum (sum_ℤ l.r (term l.fn.self.values.now l.fn.line.start l.fn.line.stride))
