@@ -1,15 +1,19 @@
 -- An element's numbers under their weights: the size of a weight, one number more, and its mass as one sum.
-use mathlib.Core.Path.{◌≡◌, sym, ap, ap₂, ◌∙◌}
+use mathlib.Core.Path.{◌≡◌, refl, sym, ap, ap₂, ◌∙◌}
 use mathlib.Core.List.{List}
 use Prim.Native.Nat.{ℕ, ◌+◌, ◌*◌, ◌^◌, ◌≤◌, ◌<◌}
-use native.Mathlib.Nat.{one-mul, mul-le-mul}
+use native.Mathlib.Nat.{zero-add, one-mul, mul-le-mul}
 use native.Mathlib.Decide.{dec_lt}
 use native.Mathlib.Omega.{arith}
 use borrow.Author.Tests.{lt-ltb, le-ltb}
-use lib.ListN.{get_or}
-use mir.Syntax.{w32}
+use lib.ListN.{length, get_or, take}
+use lib.Seq.{length-take-le, get_or-take}
+use Rattle.std.specs.List.{sum_by, enumerate_from}
+use Rattle.whole.specs.Sum.{sum}
+use Rattle.whole.proofs.ChainSums.{sum_by-numbered}
+use mir.Syntax.{w32, w64}
 use mir.Val.{Fits}
-use Rattle.whole.proofs.SumLaws.{sum-cong, sum_more}
+use Rattle.whole.proofs.SumLaws.{sum-le-each, sum-cong, sum_more}
 use Rattle.rules.specs.Field.{Kind, quadratic, element_length, cell, remainder, weighted, mass}
 use Rattle.rules.proofs.QuadraticLaws.{weight-le}
 use Rattle.field_layout.proofs.PlaceLaws.{ten}
@@ -34,10 +38,29 @@ weighs-small v {w} {x} e f = mul-le-mul {n₂ = 16} {m₂ = 2 ^ 32} (rw e (go (d
     go (yes h) = omega (arith, node-number quadratic v h, weight-le v h)
     go (no h) = omega (arith, last-number quadratic v (omega (arith, h)))
 
+pub weighs-fit : (v : ℕ) {w x : ℕ} → w ≡ number_weight quadratic v → Fits w32 x → Fits w64 (w * x)
+weighs-fit v e f = record { fits = omega (arith, weighs-small v e f) }
+
 -- ---- sums
 pub weighed-more : (κ : Kind) (l : List ℕ) (start n : ℕ) → weighed κ l start (n + 1) ≡ weighed κ l start n + number_weight κ n * get_or l (start + n) 0
 unfolding weighed
 weighed-more κ l start n = sum_more n (λ v. number_weight κ v * get_or l (start + v) 0)
+
+-- a chain over the first n numbers, each with its place
+abbrev pub number_term : ℕ × ℕ → ℕ
+number_term p = number_weight quadratic p.0 * p.1
+
+pub weighed-chain : (l : List ℕ) (n : ℕ) → n ≤ length l → sum_by number_term (enumerate_from 0 (take n l)) ≡ weighed quadratic l 0 n
+unfolding weighed
+weighed-chain l n h =
+    sum_by-numbered number_term (take n l) 0
+    ∙ ap (λ m. sum m (λ v. number_weight quadratic v * get_or (take n l) v 0)) (length-take-le n l h)
+    ∙ sum-cong n (λ v. number_weight quadratic v * get_or (take n l) v 0) (λ v. number_weight quadratic v * get_or l (0 + v) 0)
+    (λ v k. ap (λ x. number_weight quadratic v * x) (get_or-take n l v 0 k ∙ ap (λ i. get_or l i 0) (sym (zero-add v))))
+
+pub weighed-le : (l : List ℕ) (n : ℕ) → ((v : ℕ) → Fits w32 (get_or l v 0)) → weighed quadratic l 0 n ≤ n * (16 * 2 ^ 32)
+unfolding weighed
+weighed-le l n f = sum-le-each n (16 * 2 ^ 32) (λ v. number_weight quadratic v * get_or l (0 + v) 0) (λ v _. weighs-small v refl (f (0 + v)))
 
 -- all numbers of an element are its mass
 pub mass-is : (κ : Kind) (p : List ℕ) (e : ℕ) → mass κ p e ≡ weighed κ p (e * element_length κ) (element_length κ)

@@ -1,4 +1,3 @@
--- Laws of an element's numbers, of loops that fill a list, and of loading.
+-- Laws of an element's numbers and of loading.
 pub mod ElementLaws
-pub mod FillLaws
 pub mod LoadLaws

@@ -1,14 +1,19 @@
 -- Numbers that are lent in parts of nine or ten: what is loaded, weighed and closed is what the whole list says, because number i of a
 -- part is number start + i of the list.
-use mathlib.Core.Path.{◌≡◌, sym, ap, ◌∙◌}
+use mathlib.Core.Path.{◌≡◌, refl, sym, ap, ◌∙◌}
 use mathlib.Core.List.{List, [], ◌∷◌, ◌++◌}
-use Prim.Native.Nat.{ℕ, ◌+◌, ◌*◌, ◌-◌, ◌/◌, ◌≤◌, ◌<◌}
+use Prim.Native.Nat.{ℕ, ◌+◌, ◌*◌, ◌-◌, ◌/◌, ◌≤◌, ◌<◌, ◌^◌}
 use native.Mathlib.Nat.{zero-add}
 use native.Mathlib.Omega.{arith}
 use lib.IntN.{ℤ, pos}
+use mir.Syntax.{w32}
+use mir.Val.{Fits}
 use lib.ListN.{length, get_or, take, drop}
 use Rattle.whole.specs.Table.{table, at}
-use Rattle.whole.proofs.SumLaws.{sum-cong}
+use Rattle.std.specs.List.{sum_by}
+use Rattle.whole.specs.Sum.{sum}
+use Rattle.whole.proofs.ChainSums.{sum_by-places}
+use Rattle.whole.proofs.SumLaws.{sum-le-each, sum-cong}
 use lib.Seq.{length-take-le, get_or-take}
 use Rattle.std.specs.Simd.{first_chunks}
 use Rattle.whole.proofs.ListParts.{chunk-at}
@@ -23,7 +28,7 @@ use Rattle.rules.proofs.QuadraticLaws.{weights-above}
 use Rattle.limiter.specs.Sizes.{Tentative}
 use Rattle.field_elements.specs.Weighing.{number_weight, weighed}
 use Rattle.field_layout.proofs.PlaceLaws.{ten}
-use Rattle.field_elements.proofs.ElementLaws.{node-number}
+use Rattle.field_elements.proofs.ElementLaws.{node-number, weighs-small}
 
 -- ---- the nine numbers of element e of a load
 module _ (l : List ℕ) (e k : ℕ) (nine : k ≡ 9) where
@@ -46,6 +51,23 @@ lent-chunk l cs n e same long room h =
     let f : n ≤ length cs = omega arith in
     let k : e < n = omega (arith, length-take-le n cs f) in
     (k, get_or-take n cs e [] k ∙ ap (λ x. get_or x e []) same ∙ chunk-at 9 (length l / 9) e l (omega arith))
+
+-- a chain that weighs each of the first n chunks
+abbrev pub chunk-weight : List ℕ → ℕ
+chunk-weight x = weighed quadratic x 0 9
+
+pub loaded-chain : (l : List ℕ) (cs : List (List ℕ)) (n : ℕ) → cs ≡ first_chunks 9 (length l / 9) l → length cs ≡ length l / 9 → n * 9 ≤ length l
+    → sum_by chunk-weight (take n cs) ≡ sum n (λ e. weighted quadratic (loaded_value quadratic l e))
+loaded-chain l cs n same long room =
+    let many : length (take n cs) ≡ n = length-take-le n cs (omega arith) in
+    sum_by-places chunk-weight (take n cs) []
+    ∙ ap (λ m. sum m (λ e. chunk-weight (get_or (take n cs) e []))) many
+    ∙ sum-cong n (λ e. chunk-weight (get_or (take n cs) e [])) (λ e. weighted quadratic (loaded_value quadratic l e)) (λ e h. ap chunk-weight (lent-chunk l cs n e same long room (omega arith)).1 ∙ weighed-part l e 9 refl)
+
+pub loaded-le : (l : List ℕ) (n : ℕ) → ((i : ℕ) → Fits w32 (get_or l i 0)) → sum n (λ e. weighted quadratic (loaded_value quadratic l e)) ≤ n * (9 * (16 * 2 ^ 32))
+unfolding weighted loaded_value quadratic
+loaded-le l n f = sum-le-each n (9 * (16 * 2 ^ 32)) (λ e. weighted quadratic (loaded_value quadratic l e))
+    (λ e _. sum-le-each 9 (16 * 2 ^ 32) (λ k. quadratic.weight k * get_or l (e * 9 + k) 0) (λ k h. weighs-small k (sym (node-number quadratic k h)) (f (e * 9 + k))))
 
 pub loaded-length : (l : List ℕ) (e : ℕ) → length (loaded_element quadratic l e) ≡ 10
 loaded-length l e = length-loaded-element quadratic l e ∙ ten

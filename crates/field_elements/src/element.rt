@@ -5,6 +5,7 @@ ghost use Rattle.rules.specs.Field.{quadratic, mass, limit};
 ghost use Rattle.rules.specs.Calls.{emitted, withdrawn};
 ghost use Rattle.field_elements.specs.Weighing.{number_weight, weighed, most_weighed};
 
+use limiter::Closing;
 use rules::element::{NODES, NUMBERS, node_weight};
 use std::array;
 
@@ -22,11 +23,11 @@ pub fn weigh(numbers: &[u32], n: usize) -> u64
     ensures value { result ≡ weighed quadratic numbers.now 0 n }
     ensures upper_bound { result ≤ most_weighed }
 {
-    let mut sum = 0;
-    for (v, number) in numbers[..n].iter().enumerate() {
-        sum += number_weight(v) * u64::from(*number);
-    }
-    sum
+    numbers[..n]
+        .iter()
+        .enumerate()
+        .map(|(v, number)| number_weight(v) * u64::from(*number))
+        .sum()
 }
 
 // What an element holds.
@@ -53,7 +54,7 @@ pub fn emit(part: &mut [u32], q: u64)
 {
     let target = mass(part) + q;
     let psi = values(part);
-    limiter::close(part, &psi, target);
+    Closing { psi: &psi, target }.close(part);
 }
 
 // Withdrawal of q: closes the element to its mass less q, without levelling.
@@ -65,5 +66,5 @@ pub fn withdraw(part: &mut [u32], q: u64)
 {
     let target = mass(part) - q;
     let psi = values(part);
-    limiter::close_unlevelled(part, &psi, target);
+    Closing { psi: &psi, target }.close_unlevelled(part);
 }

@@ -16,11 +16,10 @@ pub fn loaded_total(numbers: &[u32], n: usize) -> u64
     ensures { result ≡ sum n (λ e. weighted quadratic (loaded_value quadratic numbers.now e)) }
 {
     let (elements, _) = numbers.as_chunks::<NODES>();
-    let mut sum = 0;
-    for element in &elements[..n] {
-        sum += element::weigh(element, NODES);
-    }
-    sum
+    elements[..n]
+        .iter()
+        .map(|element| element::weigh(element, NODES))
+        .sum()
 }
 
 // One element's nine values, and remainder 0.

@@ -1,18 +1,15 @@
 -- The sums that the closing's loops keep are within bounds: every term by its value's size and its weight, and nine weights make 36.
-use mathlib.Core.Path.{◌≡◌, refl, sym, ap, subst, ◌∙◌}
+use mathlib.Core.Path.{◌≡◌, refl, sym}
 use mathlib.Core.List.{List}
 use Prim.Native.Nat.{ℕ, ◌+◌, ◌*◌, ◌≤◌, ◌<◌}
-use native.Mathlib.Nat.{le_trans, mul-le-mul_left, mul-le-mul_right, one-mul}
+use native.Mathlib.Nat.{mul-le-mul, le_trans, mul-le-mul_left, mul-le-mul_right, one-mul}
 use native.Mathlib.Omega.{arith}
 use lib.IntN.{ℤ, pos, ◌+ℤ◌, ◌*ℤ◌}
-use lib.ListN.{length, take}
-use lib.Seq.{length-take-le, get_or-take}
 use mir.Syntax.{w64}
-use mir.Val.{to_z, of_z}
-use Rattle.whole.proofs.Sizes.{back_is}
-use Rattle.whole.specs.Parts.{positive}
+use mir.Val.{to_z, of_z, Fits, SFits}
+use Rattle.whole.proofs.Sizes.{sizes, exacts, fits, exact}
 use Rattle.whole.specs.Table.{at}
-use Rattle.whole.specs.Bound.{Within}
+use Rattle.whole.specs.Bound.{Within, Are}
 use Rattle.whole.specs.Sum.{sum, sum_ℤ}
 use Rattle.whole.proofs.BoundLaws.{within-le, within-add, within-mul, within-pos, within-sum}
 use Rattle.whole.proofs.SumLaws.{sum-le, sum_more, sum_mono}
@@ -21,27 +18,20 @@ use Rattle.rules.specs.Field.{quadratic, weighted}
 use Rattle.rules.specs.Limiter.{truncated, rescaled_value}
 use Rattle.rules.specs.Sizes.{tentative_size, levelled_size}
 use Rattle.rules.proofs.LimiterLaws.{values-le}
-use Rattle.rules.proofs.QuadraticLaws.{weights-above}
+use Rattle.rules.proofs.QuadraticLaws.{weights-above, weight-le}
 use Rattle.limiter.specs.Sizes.{Tentative, Shift, shifted}
-
--- the nine values that are read
-module _ (l : List ℤ) (h : Tentative l) where
-  pub nodes-long : length (take 9 l) ≡ 9
-  nodes-long = length-take-le 9 l h.nine
-
-  pub nodes-at : (k : ℕ) → k < length (take 9 l) → (k < 9) × (at (take 9 l) k ≡ at l k)
-  nodes-at k q = let r : k < 9 = omega (arith, nodes-long) in (r, get_or-take 9 l k (pos 0) r)
-
-  pub nodes-small : (k : ℕ) → k < length (take 9 l) → Within tentative_size (at (take 9 l) k)
-  nodes-small k q = let e = nodes-at k q in subst (Within tentative_size) (sym e.1) (h.small k e.0)
-
-  -- as the machine reads one back
-  pub nodes-back : (k : ℕ) → k < length (take 9 l) → to_z w64 (of_z w64 (at (take 9 l) k)) ≡ at l k
-  nodes-back k q = back_is w64 _ (nodes-small k q) tt ∙ (nodes-at k q).1
 
 -- one term of the signed sum
 abbrev pub term : List ℤ → ℕ → ℤ
 term l k = pos (quadratic.weight k) *ℤ at l k
+
+-- a weight, as the code gives it, times a value
+module _ {l : List ℤ} {k : ℕ} {w : ℤ} (h : Tentative l) (q : k < 9) (g : Are 16 w (pos (quadratic.weight k))) where
+  pub term-fits : SFits w64 (to_z w64 (of_z w64 w) *ℤ to_z w64 (of_z w64 (at l k)))
+  term-fits = let b = h.small k q in fits (search sizes depth 20) tt
+
+  pub term-is : to_z w64 (of_z w64 (to_z w64 (of_z w64 w) *ℤ to_z w64 (of_z w64 (at l k)))) ≡ term l k
+  term-is = let b = h.small k q in exact (search exacts depth 20) tt
 
 -- the sum of the first n terms: 36 times the largest value at most
 pub terms-within : (l : List ℤ) (n : ℕ) → Tentative l → n ≤ 9 → Within (36 * tentative_size) (sum_ℤ n (term l))
@@ -72,11 +62,6 @@ module _ (l : List ℤ) (s : ℤ) where
   cut_value = truncated (shifted l s)
 
   module _ (h : Tentative l) (b : Shift s) where
-    -- what truncation gives of a value as the machine reads it back
-    pub cut_value-is : (k x : ℕ) → k < length (take 9 l) → x ≡ positive (to_z w64 (of_z w64 (at (take 9 l) k)) +ℤ s) → x ≡ cut_value k
-    unfolding truncated
-    cut_value-is k x q e = e ∙ ap (λ v. positive (v +ℤ s)) (nodes-back l h k q)
-
     pub cut_value-le : (k : ℕ) → k < 9 → cut_value k ≤ levelled_size
     unfolding truncated
     cut_value-le k q = omega (arith, positive-le (at l k +ℤ s), (within-add (h.small k q) b.small).within)
@@ -105,3 +90,7 @@ module _ (l : List ℤ) (s : ℤ) (t : ℕ) where
     mul-le-mul_right (new_value k) (weights-above k q),
     one-mul (new_value k),
   )
+
+-- a node's weight times a value after truncation fits
+pub weighted-fits : {k w x : ℕ} → k < 9 → w ≡ quadratic.weight k → x ≤ levelled_size → Fits w64 (w * x)
+weighted-fits {k} {w} {x} h e l = record { fits = omega (arith, mul-le-mul {n₁ = w} {n₂ = 16} {m₂ = levelled_size} (rw e (weight-le k h)) l) }

@@ -5,8 +5,7 @@
 
 ghost use Rattle.std.specs.Prelude.{◌≡◌, ◌*◌, ◌≤◌, ◌<◌, ◌^◌, pos, ◌+ℤ◌, ◌*ℤ◌, length};
 ghost use Rattle.whole.specs.Table.{at};
-ghost use Rattle.whole.specs.Bound.{Within, Are};
-ghost use Rattle.whole.specs.Parts.{positive};
+ghost use Rattle.whole.specs.Bound.{Are};
 ghost use Rattle.whole.specs.Sum.{sum_ℤ};
 ghost use Rattle.rules.specs.Field.{quadratic, weighted};
 ghost use Rattle.rules.specs.Limiter.{mean_shift, truncated, rescaled, closed_unlevelled, closed};
@@ -18,49 +17,96 @@ use rules::element::{NODES, node_weight, signed_weight};
 // The sum of the nodes' weights.
 const WEIGHT_SUM: i64 = 36;
 
-// The weighted sum of nine signed values.
-fn weighted_sum(psi: &[i64]) -> i64
-    requires { Tentative psi.now }
-    ensures { Are (36 * tentative_size) result (sum_ℤ 9 (λ k. pos (quadratic.weight k) *ℤ at psi.now k)) }
-{
-    let mut sum = 0;
-    for (k, value) in psi[..NODES].iter().enumerate() {
-        sum += signed_weight(k) * value;
+// What an element is closed with: its tentative values, the first nine of psi, and its target.
+#[derive(Clone, Copy)]
+pub struct Closing<'a> {
+    pub psi: &'a [i64],
+    pub target: u64,
+    ghost tentative: { Tentative psi.now },
+    ghost target_le_target_size: { target ≤ target_size },
+}
+
+impl Closing<'_> {
+    // The closing: an element's ten numbers.
+    pub fn close(self, part: &mut [u32])
+        requires { length part.old ≡ 10 }
+        ensures { part.new ≡ closed quadratic (at self.entry.psi.now) self.entry.target }
+    {
+        let raised = Raised {
+            closing: self,
+            shift: self.mean_shift(),
+        };
+        raised.close(part);
     }
-    sum
-}
 
-// What levelling adds to every value.
-fn mean_shift(psi: &[i64], target: u64) -> i64
-    requires tentative { Tentative psi.now }
-    requires target_le_target_size { target ≤ target_size }
-    ensures { Are shift_size result (mean_shift quadratic (at psi.now) target) }
-{
-    let sum = weighted_sum(psi);
-    whole::floor_div((target as i64) - sum, WEIGHT_SUM)
-}
-
-// A value after levelling and truncation: below 0 there is no u64 of it, and it becomes 0.
-fn truncate(value: i64, shift: i64) -> u64
-    requires value { Within tentative_size value }
-    requires shift { Shift shift }
-    ensures value { result ≡ positive (value +ℤ shift) }
-    ensures upper_bound { result ≤ levelled_size }
-{
-    u64::try_from(value + shift).unwrap_or(0)
-}
-
-// The weighted sum P after levelling and truncation.
-fn truncated_sum(psi: &[i64], shift: i64) -> u64
-    requires tentative { Tentative psi.now }
-    requires shift { Shift shift }
-    ensures { result ≡ weighted quadratic (truncated (shifted psi.now shift)) }
-{
-    let mut sum = 0;
-    for (k, value) in psi[..NODES].iter().enumerate() {
-        sum += node_weight(k) * truncate(*value, shift);
+    // The closing without levelling.
+    pub fn close_unlevelled(self, part: &mut [u32])
+        requires { length part.old ≡ 10 }
+        ensures { part.new ≡ closed_unlevelled quadratic (at self.entry.psi.now) self.entry.target }
+    {
+        let raised = Raised {
+            closing: self,
+            shift: 0,
+        };
+        raised.close(part);
     }
-    sum
+
+    // What levelling adds to every value.
+    fn mean_shift(self) -> i64
+        ensures { Are shift_size result (mean_shift quadratic (at self.entry.psi.now) self.entry.target) }
+    {
+        let sum = self.weighted_sum();
+        whole::floor_div((self.target as i64) - sum, WEIGHT_SUM)
+    }
+
+    // The weighted sum of the values.
+    fn weighted_sum(self) -> i64
+        ensures { Are (36 * tentative_size) result (sum_ℤ 9 (λ k. pos (quadratic.weight k) *ℤ at self.entry.psi.now k)) }
+    {
+        (0..NODES).map(|k| signed_weight(k) * self.psi[k]).sum()
+    }
+}
+
+// A closing whose values are each raised by a shift: what levelling adds, or 0.
+#[derive(Clone, Copy)]
+struct Raised<'a> {
+    closing: Closing<'a>,
+    shift: i64,
+    ghost small: { Shift shift },
+}
+
+impl Raised<'_> {
+    // Value k after levelling and truncation: below 0 there is no u64 of it, and it becomes 0.
+    fn truncated(self, k: usize) -> u64
+        requires { k < 9 }
+        ensures value { result ≡ truncated (shifted self.entry.closing.psi.now self.entry.shift) k }
+        ensures upper_bound { result ≤ levelled_size }
+    {
+        u64::try_from(self.closing.psi[k] + self.shift).unwrap_or(0)
+    }
+
+    // The weighted sum P of these values.
+    fn sum(self) -> u64
+        ensures { result ≡ weighted quadratic (truncated (shifted self.entry.closing.psi.now self.entry.shift)) }
+    {
+        (0..NODES).map(|k| node_weight(k) * self.truncated(k)).sum()
+    }
+
+    // Truncation, rescaling and remainder.
+    fn close(self, part: &mut [u32])
+        requires { length part.old ≡ 10 }
+        ensures { part.new ≡ closed_unlevelled quadratic (shifted self.entry.closing.psi.now self.entry.shift) self.entry.closing.target }
+    {
+        let target = self.closing.target;
+        let p = self.sum();
+        let mut sum = 0;
+        for (k, number) in part[..NODES].iter_mut().enumerate() {
+            let y = rescale(p, target, self.truncated(k));
+            *number = y as u32;
+            sum += node_weight(k) * y;
+        }
+        part[NODES] = (target - sum) as u32;
+    }
 }
 
 // A part v of the sum p, rescaled to the target.
@@ -69,44 +115,4 @@ pub fn rescale(p: u64, target: u64, v: u64) -> u64
     ensures { result ≡ rescaled p target v }
 {
     if p <= target { v } else { v * target / p }
-}
-
-// Truncation, rescaling and remainder of the values psi, each raised by shift. The part is written by place: after a loop over iter_mut
-// beside psi a proof knows no number of the part.
-fn close_shifted(part: &mut [u32], psi: &[i64], shift: i64, target: u64)
-    requires part_len { length part.old ≡ 10 }
-    requires tentative { Tentative psi.now }
-    requires shift { Shift shift }
-    requires target_le_target_size { target ≤ target_size }
-    ensures { part.new ≡ closed_unlevelled quadratic (shifted psi.now shift) target }
-{
-    let p = truncated_sum(psi, shift);
-    let mut sum = 0;
-    for (k, value) in psi[..NODES].iter().enumerate() {
-        let y = rescale(p, target, truncate(*value, shift));
-        part[k] = y as u32;
-        sum += node_weight(k) * y;
-    }
-    part[NODES] = (target - sum) as u32;
-}
-
-// The closing: an element's ten numbers from the nine values psi and the target.
-pub fn close(part: &mut [u32], psi: &[i64], target: u64)
-    requires part_len { length part.old ≡ 10 }
-    requires tentative { Tentative psi.now }
-    requires target_le_target_size { target ≤ target_size }
-    ensures { part.new ≡ closed quadratic (at psi.now) target }
-{
-    let shift = mean_shift(psi, target);
-    close_shifted(part, psi, shift, target);
-}
-
-// The closing without levelling.
-pub fn close_unlevelled(part: &mut [u32], psi: &[i64], target: u64)
-    requires part_len { length part.old ≡ 10 }
-    requires tentative { Tentative psi.now }
-    requires target_le_target_size { target ≤ target_size }
-    ensures { part.new ≡ closed_unlevelled quadratic (at psi.now) target }
-{
-    close_shifted(part, psi, 0, target);
 }

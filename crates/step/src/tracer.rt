@@ -12,6 +12,7 @@ ghost use Rattle.step_upwind.specs.Upwind.{stage_length};
 ghost use Rattle.step.specs.Finish.{Balance, mass_of, new_element};
 
 use field_layout::Grid;
+use limiter::Closing;
 use rules::element::{NODES, NUMBERS};
 use step_fluxes::Combined;
 use step_grid::Element;
@@ -42,10 +43,13 @@ fn finish(part: &mut [u32], psi: &[i64], masses: &[i64], report: &[i32], grid: G
     // By number, which gives the element its neighbours and its place in both slices: of the parts that `chunks_exact_mut` has lent, a proof
     // knows only how many they are.
     for index in 0..n {
-        let goal = target(masses, report, Element { grid, index });
+        let closing = Closing {
+            psi: &psi[index * NODES..],
+            target: target(masses, report, Element { grid, index }),
+        };
         let start = index * NUMBERS;
         let end = start + NUMBERS;
-        limiter::close(&mut part[start..end], &psi[index * NODES..], goal);
+        closing.close(&mut part[start..end]);
     }
 }
 

@@ -24,6 +24,12 @@ unfolding sum
 sum-le zero f g h = le_refl 0
 sum-le (suc n) f g h = omega (arith, sum-le n f g (λ i k. h i (omega arith)), h n (omega arith))
 
+-- n terms of at most m
+pub sum-le-each : (n m : ℕ) (f : ℕ → ℕ) → ((i : ℕ) → i < n → f i ≤ m) → sum n f ≤ n * m
+unfolding sum
+sum-le-each zero m f h = omega arith
+sum-le-each (suc n) m f h = omega (arith, sum-le-each n m f (λ i l. h i (omega arith)), h n (omega arith), native.Mathlib.Nat.suc-mul n m)
+
 pub sum-cong : (n : ℕ) (f g : ℕ → ℕ) → ((i : ℕ) → i < n → f i ≡ g i) → sum n f ≡ sum n g
 unfolding sum
 sum-cong zero f g h = refl

@@ -1,5 +1,5 @@
 use Rattle.std.proofs.Common.{arith}
-use Rattle.field_elements.proofs.FillLaws.{filled_none, filled_next}
+use Rattle.whole.proofs.FillLaws.{filled_none, filled_next}
 use Rattle.file_sections.proofs.SectionLaws.{read-next}
 use Rattle.file_sections.proofs.read_all.Goals as goal
 

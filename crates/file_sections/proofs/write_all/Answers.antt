@@ -1,7 +1,7 @@
 use Rattle.std.proofs.Common.{ap, ◌*◌, arith}
 use Rattle.std.proofs.lemmas.List.{get_or_read}
 use native.Mathlib.Nat.{mul_comm}
-use Rattle.field_elements.proofs.FillLaws.{blocks-none, blocks-over, blocks-all}
+use Rattle.whole.proofs.FillLaws.{blocks-none, blocks-over, blocks-all}
 use Rattle.file_numbers.proofs.PlaceLaws.{write-at}
 use Rattle.file_sections.proofs.write_all.Goals as goal
 

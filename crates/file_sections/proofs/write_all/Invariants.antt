@@ -1,5 +1,5 @@
 use Rattle.std.proofs.Common.{length, get_or}
-use Rattle.field_elements.proofs.FillLaws.{BlocksFilled}
+use Rattle.whole.proofs.FillLaws.{BlocksFilled}
 use Rattle.file_sections.proofs.write_all.Given as goal
 
 abbrev pub invariant-loop-i : goal.invariant-loop-i

@@ -1,6 +1,6 @@
 use Rattle.std.proofs.Common.{arith}
 use Rattle.whole.proofs.Sizes.{exacts, exact}
-use Rattle.field_elements.proofs.FillLaws.{filled_none, filled_next}
+use Rattle.whole.proofs.FillLaws.{filled_none, filled_next}
 use Rattle.step_correction.proofs.limit.Goals as goal
 
 pub loop-index-init : goal.loop-index-init

@@ -1,5 +1,5 @@
 use lib.ListN.{length}
-use Rattle.field_elements.proofs.FillLaws.{Filled}
+use Rattle.whole.proofs.FillLaws.{Filled}
 use Rattle.step_correction.specs.Amounts.{limited_face}
 use Rattle.step_correction.proofs.limit.Given as goal
 

@@ -4,7 +4,7 @@ use lib.IntN.{pos}
 use mir.Syntax.{w64}
 use mir.Facts.{to_z_pos}
 use Rattle.rules.specs.Field.{quadratic, mass, limit}
-use Rattle.field_elements.proofs.FillLaws.{filled_none, filled_next}
+use Rattle.whole.proofs.FillLaws.{filled_none, filled_next}
 use Rattle.step_correction.proofs.Laws.{mass-part}
 use Rattle.step_correction.proofs.masses.Goals as goal
 use Rattle.step_correction.proofs.masses.Goals.{After-mass}

@@ -1,6 +1,6 @@
 use lib.IntN.{pos}
 use lib.ListN.{length}
-use Rattle.field_elements.proofs.FillLaws.{Filled}
+use Rattle.whole.proofs.FillLaws.{Filled}
 use Rattle.rules.specs.Field.{quadratic, mass}
 use Rattle.step_correction.proofs.masses.Given as goal
 

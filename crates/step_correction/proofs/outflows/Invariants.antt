@@ -1,7 +1,7 @@
 use lib.IntN.{pos}
 use lib.ListN.{length}
 use Rattle.whole.specs.Table.{at}
-use Rattle.field_elements.proofs.FillLaws.{Filled}
+use Rattle.whole.proofs.FillLaws.{Filled}
 use Rattle.rules.specs.Correction.{donor, outflow}
 use Rattle.step_correction.proofs.outflows.Given as goal
 

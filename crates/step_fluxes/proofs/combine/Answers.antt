@@ -1,6 +1,6 @@
 use Rattle.std.proofs.Common.{arith}
 use Rattle.whole.proofs.Sizes.{sizes, fits}
-use Rattle.field_elements.proofs.FillLaws.{filled_none, filled_next}
+use Rattle.whole.proofs.FillLaws.{filled_none, filled_next}
 use Rattle.step_fluxes.proofs.Laws.{combine-exact}
 use Rattle.step_fluxes.proofs.combine.Goals as goal
 

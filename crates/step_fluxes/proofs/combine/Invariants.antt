@@ -1,6 +1,6 @@
 use lib.ListN.{length}
 use Rattle.whole.specs.Table.{at}
-use Rattle.field_elements.proofs.FillLaws.{Filled}
+use Rattle.whole.proofs.FillLaws.{Filled}
 use Rattle.step_fluxes.specs.Face.{combined}
 use Rattle.step_fluxes.proofs.combine.Given as goal
 

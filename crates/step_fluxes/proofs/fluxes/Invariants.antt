@@ -1,5 +1,5 @@
 use lib.ListN.{length}
-use Rattle.field_elements.proofs.FillLaws.{Filled}
+use Rattle.whole.proofs.FillLaws.{Filled}
 use Rattle.rules.specs.Calls.{wind_at}
 use Rattle.step_fluxes.specs.Face.{face_flux}
 use Rattle.step_fluxes.proofs.fluxes.Given as goal

@@ -3,7 +3,7 @@ use lib.IntN.{pos, ◌+ℤ◌, ◌*ℤ◌}
 use mir.Syntax.{w64}
 use Rattle.whole.specs.Table.{at}
 use Rattle.whole.proofs.Sizes.{sizes, fits, back_is}
-use Rattle.field_elements.proofs.FillLaws.{filled_none, filled_next, filled-rest}
+use Rattle.whole.proofs.FillLaws.{filled_none, filled_next, filled-rest}
 use Rattle.step_stages.proofs.Laws.{B, add-exact}
 use Rattle.step_stages.proofs.add.Goals as goal
 use Rattle.step_stages.proofs.add.Goals.{In-loop-k}

@@ -1,6 +1,6 @@
 use lib.IntN.{◌+ℤ◌, ◌*ℤ◌}
 use Rattle.whole.specs.Table.{at}
-use Rattle.field_elements.proofs.FillLaws.{Filled}
+use Rattle.whole.proofs.FillLaws.{Filled}
 use Rattle.step_stages.proofs.add.Given as goal
 
 abbrev pub invariant-loop-k : goal.invariant-loop-k

@@ -14,7 +14,7 @@ use Rattle.rules.specs.Field.{quadratic, elements}
 use Rattle.rules.specs.Stages.{tendency}
 use Rattle.rules.specs.Calls.{wind_at}
 use Rattle.rules.specs.Sizes.{tendency_size}
-use Rattle.field_elements.proofs.FillLaws.{blocks-none, blocks-next, blocks-rest, blocks-whole}
+use Rattle.whole.proofs.FillLaws.{blocks-none, blocks-next, blocks-rest, blocks-whole}
 use Rattle.step_upwind.specs.Upwind.{as_stage}
 use Rattle.step_stages.specs.Advance.{from_stage, new_sums}
 use Rattle.step_stages.proofs.Laws.{tendencies-small, sums-lent}

@@ -1,5 +1,5 @@
 use Rattle.whole.specs.Table.{table}
-use Rattle.field_elements.proofs.FillLaws.{BlocksFilled}
+use Rattle.whole.proofs.FillLaws.{BlocksFilled}
 use Rattle.rules.specs.Field.{elements}
 use Rattle.rules.specs.Calls.{wind_at}
 use Rattle.step_stages.specs.Advance.{from_stage, new_sums}

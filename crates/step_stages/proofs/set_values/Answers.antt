@@ -4,7 +4,7 @@ use mir.Syntax.{w64}
 use Rattle.whole.specs.Bound.{floor_div}
 use Rattle.whole.specs.Table.{at}
 use Rattle.whole.proofs.Sizes.{back_is}
-use Rattle.field_elements.proofs.FillLaws.{filled_none, filled_next}
+use Rattle.whole.proofs.FillLaws.{filled_none, filled_next}
 use Rattle.step_stages.specs.Advance.{from_stage, divisor}
 use Rattle.step_stages.proofs.Laws.{value-exact}
 use Rattle.step_stages.proofs.set_values.Goals as goal

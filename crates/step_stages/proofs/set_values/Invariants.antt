@@ -1,6 +1,6 @@
 use lib.ListN.{length}
 use Rattle.whole.specs.Table.{at}
-use Rattle.field_elements.proofs.FillLaws.{Filled}
+use Rattle.whole.proofs.FillLaws.{Filled}
 use Rattle.step_stages.specs.Advance.{from_stage, new_value}
 use Rattle.step_stages.proofs.set_values.Given as goal
 

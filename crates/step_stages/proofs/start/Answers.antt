@@ -7,7 +7,7 @@ use Rattle.whole.proofs.TableLaws.{length-table, table-cong, blocks-table}
 use Rattle.rules.specs.Field.{quadratic, elements}
 use Rattle.rules.specs.Stages.{stage0}
 use Rattle.field_layout.proofs.PlaceLaws.{elements-are}
-use Rattle.field_elements.proofs.FillLaws.{blocks-none, blocks-next, blocks-whole}
+use Rattle.whole.proofs.FillLaws.{blocks-none, blocks-next, blocks-whole}
 use Rattle.step_stages.proofs.Laws.{all-lent, stored-lent}
 use Rattle.step_stages.proofs.start.Goals as goal
 use Rattle.step_stages.proofs.start.Goals.{After-as_chunks}

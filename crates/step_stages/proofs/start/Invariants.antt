@@ -1,5 +1,5 @@
 use Rattle.whole.specs.Table.{table}
-use Rattle.field_elements.proofs.FillLaws.{BlocksFilled}
+use Rattle.whole.proofs.FillLaws.{BlocksFilled}
 use Rattle.rules.specs.Field.{quadratic, elements}
 use Rattle.rules.specs.Stages.{stage0}
 use Rattle.step_stages.proofs.start.Given as goal

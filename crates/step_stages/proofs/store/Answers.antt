@@ -1,7 +1,7 @@
 use Rattle.std.proofs.Common.{arith}
 use mir.Syntax.{w64}
 use Rattle.whole.proofs.Sizes.{read_back}
-use Rattle.field_elements.proofs.FillLaws.{filled_none, filled_next}
+use Rattle.whole.proofs.FillLaws.{filled_none, filled_next}
 use Rattle.step_stages.proofs.store.Goals as goal
 
 pub loop-k-init : goal.loop-k-init

@@ -1,6 +1,6 @@
 use lib.IntN.{pos}
 use lib.ListN.{get_or}
-use Rattle.field_elements.proofs.FillLaws.{Filled}
+use Rattle.whole.proofs.FillLaws.{Filled}
 use Rattle.step_stages.proofs.store.Given as goal
 
 abbrev pub invariant-loop-k : goal.invariant-loop-k

@@ -3,7 +3,7 @@ use mathlib.Core.Path.{◌≡◌, ◌∙◌}
 use native.Mathlib.Omega.{arith}
 use mir.Syntax.{w16}
 use mir.Val.{to_z, of_z}
-use Rattle.field_elements.proofs.FillLaws.{filled_none, filled_next}
+use Rattle.whole.proofs.FillLaws.{filled_none, filled_next}
 use Rattle.wind_import.proofs.ImportLaws.{walked_none, walked_more, never-refused, winds-are}
 use Rattle.wind_import.proofs.lay.Goals as goal
 use Rattle.wind_import.proofs.lay.Goals.{In-Ok}

@@ -1,7 +1,7 @@
 -- The second walk: at each turn the winds of one more record stand in their faces' places.
 use lib.ListN.{length}
 use Rattle.rules.specs.WindRecords.{east_wind, north_wind}
-use Rattle.field_elements.proofs.FillLaws.{Filled}
+use Rattle.whole.proofs.FillLaws.{Filled}
 use Rattle.wind_import.proofs.ImportLaws.{Walked}
 use Rattle.wind_import.proofs.lay.Given as goal
 

@@ -1,40 +1,29 @@
-use mathlib.Core.Path.{◌≡◌, refl, sym, subst, ◌∙◌}
-use mir.Syntax.{w32}
-use mir.Val.{Fits}
-use lib.Seq.{length-take-le, get_or-take}
-use Prim.Native.Nat.{◌≤◌, ◌<◌, ◌*◌, ◌^◌}
-use native.Mathlib.Nat.{zero-add}
-use native.Mathlib.Omega.{arith}
-use lib.ListN.{get_or}
-use Rattle.whole.specs.Sum.{sum}
-use Rattle.rules.specs.Field.{quadratic}
-use Rattle.field_elements.specs.Weighing.{weighed}
-use Rattle.field_elements.proofs.ElementLaws.{weighs-small, weighed-more}
+use Rattle.std.proofs.Common.{rules, of_calls, tests, ◌∙◌, take, arith}
+use Rattle.std.specs.List.{enumerate_from}
+use Rattle.std.specs.Iterator.Adapters.{map_source, enumerate_steps}
+use Rattle.std.proofs.iter.Yields.{fronts}
+use Rattle.std.proofs.lemmas.Iterator.{YieldsList}
+use Rattle.std.proofs.lemmas.Iterator.Adapters.{serves_from_places}
+use Rattle.whole.proofs.ChainSums.{numbered-items, mapped-sum, mapped-fits}
+use Rattle.field_elements.proofs.ElementLaws.{number_term, weighs-fit, weighed-chain, weighed-le}
 use Rattle.field_elements.proofs.element.weigh.Goals as goal
-use Rattle.field_elements.proofs.element.weigh.Goals.{After-from}
+use Rattle.field_elements.proofs.element.weigh.Goals.{After-map}
 
-pub loop-v-init : goal.loop-v-init
-unfolding weighed sum
-loop-v-init c = (omega arith, refl, omega arith)
+-- the first n numbers, with their places
+items : (c : After-map) → YieldsList (enumerate_steps fronts) (λ p. (p.0, p.1.now)) (map_source c.map.result) (enumerate_from 0 (take c.args.n c.args.numbers.now))
+items c = numbered-items (take c.args.n c.args.numbers.now) c.iter.ensures.rest c.enumerate.ensures.source c.enumerate.ensures.count c.map.ensures.source
 
--- what a turn reads and adds
-added : (c : After-from) → (c.loop-v.v < c.args.n) × (c.from.result ≡ get_or c.args.numbers.now c.loop-v.v 0) × (c.number_weight.result * c.from.result ≤ 16 * 2 ^ 32)
-added c =
-    let v = c.loop-v.v in
+pub sum-requires-clause-can : goal.sum-requires-clause-can
+sum-requires-clause-can c = (search of_calls, serves_from_places (items c) (λ x q k. search rules) (λ x k l e. search (rules, weighs-fit)))
+
+pub sum-requires-clause-fits : goal.sum-requires-clause-fits
+sum-requires-clause-fits c =
     let p = c.args.numbers.now in
-    let h : v < c.args.n = omega (arith, length-take-le c.args.n p c.requires.n_in_bounds) in
-    let e = c.from.ensures ∙ get_or-take c.args.n p v 0 h in
-    (h, e, weighs-small v c.number_weight.ensures (subst (Fits w32) (sym e) (c.type_inv.numbers v)))
+    mapped-fits _ number_term (items c) c.map.ensures.closure (λ x r q k. search (rules, tests)) (omega (arith, weighed-chain p c.args.n c.requires.n_in_bounds, weighed-le p c.args.n c.type_inv.numbers, c.requires.n_bound))
 
-pub overflow_mul-sum : goal.overflow_mul-sum
-overflow_mul-sum c = record { fits = omega (arith, added (goal.at.overflow_mul-sum c).After-from) }
+pub returns-clause-value : goal.returns-clause-value
+returns-clause-value c =
+    mapped-sum _ number_term (items (goal.at.returns-clause-value c).After-map) c.map.ensures.closure (λ x r q k. search (rules, tests)) c.sum.ensures.ran ∙ weighed-chain c.args.numbers.now c.args.n c.requires.n_in_bounds
 
-pub overflow_add-sum : goal.overflow_add-sum
-overflow_add-sum c = record { fits = omega (arith, added (goal.at.overflow_add-sum c).After-from, c.loop-v.invariant.2) }
-
-pub loop-v-preserved : goal.loop-v-preserved
-loop-v-preserved c =
-    let l = c.loop-v in
-    let p = c.args.numbers.now in
-    let a = added (goal.at.loop-v-preserved c).After-from in
-    (omega (arith, a.0), rw (weighed-more quadratic p 0 l.v, zero-add l.v, ← l.invariant.1, c.number_weight.ensures, a.1), omega (arith, a.2))
+pub returns-clause-upper_bound : goal.returns-clause-upper_bound
+returns-clause-upper_bound c = omega (arith, returns-clause-value c, weighed-le c.args.numbers.now c.args.n c.type_inv.numbers, c.requires.n_bound)

@@ -4,7 +4,7 @@ use native.Mathlib.Omega.{arith}
 use native.Mathlib.Nat.{add-sub_cancel_left}
 use Rattle.rules.specs.Field.{quadratic}
 use Rattle.rules.specs.Calls.{loaded_element}
-use Rattle.field_elements.proofs.FillLaws.{blocks-none, blocks-next}
+use Rattle.whole.proofs.FillLaws.{blocks-none, blocks-next}
 use Rattle.field_elements.proofs.LoadLaws.{loaded-part, loaded-length, lent-chunk}
 use Rattle.field_elements.proofs.fill.lay.Goals as goal
 

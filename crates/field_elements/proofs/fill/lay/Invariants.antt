@@ -1,6 +1,6 @@
 use Rattle.rules.specs.Field.{quadratic}
 use Rattle.rules.specs.Calls.{loaded_element}
-use Rattle.field_elements.proofs.FillLaws.{BlocksFilled}
+use Rattle.whole.proofs.FillLaws.{BlocksFilled}
 use Rattle.field_elements.proofs.fill.lay.Given as goal
 
 abbrev pub invariant-loop-e : goal.invariant-loop-e

@@ -1,21 +1,25 @@
-use mathlib.Core.Path.{◌≡◌, refl, sym, ap, ◌∙◌}
-use native.Mathlib.Omega.{arith}
-use Rattle.whole.proofs.SumLaws.{sum_more}
-use Rattle.rules.specs.Field.{quadratic, weighted}
-use Rattle.rules.specs.Calls.{loaded_value}
-use Rattle.field_elements.specs.Weighing.{weighed}
-use Rattle.field_elements.proofs.LoadLaws.{weighed-part, lent-chunk}
+use Rattle.std.proofs.Common.{rules, tests, ◌∙◌, take, arith, List, ℕ}
+use Rattle.std.specs.Iterator.Adapters.{map_source}
+use Rattle.std.proofs.iter.Yields.{fronts}
+use Rattle.std.proofs.lemmas.Iterator.{YieldsList, YieldsList-from_slice}
+use Rattle.std.proofs.lemmas.Iterator.Consumers.{YieldsList-at}
+use Rattle.whole.proofs.ChainSums.{mapped-sum, mapped-fits}
+use Rattle.field_elements.proofs.LoadLaws.{chunk-weight, loaded-chain, loaded-le}
 use Rattle.field_elements.proofs.fill.loaded_total.Goals as goal
+use Rattle.field_elements.proofs.fill.loaded_total.Goals.{After-map}
 
-pub loop-element-init : goal.loop-element-init
-unfolding Rattle.whole.specs.Sum.sum
-loop-element-init c = (refl, omega arith)
+-- the first n chunks
+items : (c : After-map) → YieldsList {A = _} {B = List ℕ} fronts (λ y. y.now) (map_source c.map.result) (take c.args.n c.as_chunks.result.0.now)
+items c = YieldsList-at c.map.ensures.source (YieldsList-from_slice (take c.args.n c.as_chunks.result.0.now) c.iter.ensures.rest)
 
-pub loop-element-preserved : goal.loop-element-preserved
-loop-element-preserved c =
-    let l = c.loop-element in
+pub sum-requires-clause-fits : goal.sum-requires-clause-fits
+sum-requires-clause-fits c =
     let p = c.args.numbers.now in
-    let i = l.element-index in
-    let k = lent-chunk p _ c.args.n i c.as_chunks.ensures.front c.as_chunks.ensures.front_len c.requires.n_in_bounds c.loop-element-test.true in
-    let w : c.weigh-sum.result ≡ weighted quadratic (loaded_value quadratic p i) = c.weigh-sum.ensures.value ∙ ap (λ x. weighed quadratic x 0 9) k.1 ∙ weighed-part p i 9 refl in
-    (rw (w, l.invariant.0) (sym (sum_more i (λ e. weighted quadratic (loaded_value quadratic p e)))), omega (arith, c.weigh-sum.ensures.upper_bound, l.invariant.1))
+    let h = c.requires in
+    mapped-fits _ chunk-weight (items c) c.map.ensures.closure (λ x r q k. search (rules, tests))
+    (omega (arith, loaded-chain p _ c.args.n c.as_chunks.ensures.front c.as_chunks.ensures.front_len h.n_in_bounds, loaded-le p c.args.n c.type_inv.numbers, h.n_le_most_elements))
+
+pub returns : goal.returns
+returns c =
+    mapped-sum _ chunk-weight (items (goal.at.returns c).After-map) c.map.ensures.closure (λ x r q k. search (rules, tests)) c.sum.ensures.ran
+    ∙ loaded-chain c.args.numbers.now _ c.args.n c.as_chunks.ensures.front c.as_chunks.ensures.front_len c.requires.n_in_bounds

@@ -6,7 +6,7 @@ use Rattle.whole.specs.Table.{at}
 use Rattle.rules.specs.Field.{quadratic, elements}
 use Rattle.rules.specs.Limiter.{closed}
 use Rattle.field_layout.proofs.PlaceLaws.{elements-are}
-use Rattle.field_elements.proofs.FillLaws.{blocks-none, blocks-next, blocks-whole}
+use Rattle.whole.proofs.FillLaws.{blocks-none, blocks-next, blocks-whole}
 use Rattle.step_upwind.specs.Upwind.{as_stage}
 use Rattle.step.specs.Finish.{new_element}
 use Rattle.step.proofs.Laws.{new-length, tentative-lent, closed-lent}
@@ -23,8 +23,8 @@ inside c = omega (arith, c.elements-n.ensures)
 pub loop-index-init : goal.loop-index-init
 loop-index-init c = blocks-none (omega (arith, ten (goal.at.loop-index-init c).Start))
 
-pub close-requires-clause-tentative : goal.close-requires-clause-tentative
-close-requires-clause-tentative c = let h = c.requires in rw (take_rest c.args.psi.now (c.loop-index.index * 9)) (tentative-lent c.args.grid.shape c.args.psi.now c.loop-index.index h.psi_len h.all_within (inside (goal.at.close-requires-clause-tentative c).In-loop-index))
+pub invariant_of-closing-clause-tentative : goal.invariant_of-closing-clause-tentative
+invariant_of-closing-clause-tentative c = let h = c.requires in rw (take_rest c.args.psi.now (c.loop-index.index * 9)) (tentative-lent c.args.grid.shape c.args.psi.now c.loop-index.index h.psi_len h.all_within (inside (goal.at.invariant_of-closing-clause-tentative c).In-loop-index))
 
 pub loop-index-preserved : goal.loop-index-preserved
 unfolding new_element
@@ -32,7 +32,7 @@ loop-index-preserved c =
     let a = c.args in
     let e = c.loop-index.index in
     blocks-next (new-length a.grid.shape a.psi.now a.masses.now a.report.now) c.loop-index.invariant (inside (goal.at.loop-index-preserved c).In-loop-index) refl (add-sub_cancel_left (e * 10) 10)
-    (c.close.ensures ∙ ap (λ l. closed quadratic (at l) c.target-goal.result) (take_rest a.psi.now (e * 9)) ∙ closed-lent a.psi.now e c.target-goal.result ∙ ap (closed quadratic (as_stage a.psi.now e)) c.target-goal.ensures.value)
+    (c.close.ensures ∙ ap (λ l. closed quadratic (at l) c.target.result) (take_rest a.psi.now (e * 9)) ∙ closed-lent a.psi.now e c.target.result ∙ ap (closed quadratic (as_stage a.psi.now e)) c.target.ensures.value)
 
 pub returns : goal.returns
 returns c = blocks-whole c.loop-index.invariant (omega (arith, c.elements-n.ensures)) (ten (goal.at.returns c).Start)

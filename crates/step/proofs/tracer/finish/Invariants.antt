@@ -1,4 +1,4 @@
-use Rattle.field_elements.proofs.FillLaws.{BlocksFilled}
+use Rattle.whole.proofs.FillLaws.{BlocksFilled}
 use Rattle.rules.specs.Field.{elements}
 use Rattle.step.specs.Finish.{new_element}
 use Rattle.step.proofs.tracer.finish.Given as goal

@@ -32,6 +32,12 @@ module _ {A : Type 0} {f : ℕ → A} {l : List A} {n : ℕ} where
   filled-rest {k} h i d le = ap (λ x. get_or x i d) h.same ∙ get_or-append_right (table k f) (drop k l) k i d (length-table k f) le ∙ get_or-drop k l (i - k) d
       ∙ (let e : k + (i - k) ≡ i = omega arith in ap (λ j. get_or l j d) e)
 
+  -- a list of n entries that is filled
+  pub filled-whole : {k : ℕ} {p : List A} → Filled f l n k p → n ≤ k → length l ≡ n → p ≡ table n f
+  filled-whole {k} h end e =
+      let same : k ≡ n = omega (arith, h.within) in
+      (rw same at h.same) ∙ ap (λ y. table n f ++ y) (drop_of_length-le l {i = n} (omega arith)) ∙ append-nil (table n f)
+
 -- the first k of n blocks of width w are f's, the rest is that of l
 pub record BlocksFilled {A : Type 0} (w : ℕ) (f : ℕ → List A) (l : List A) (n k : ℕ) (p : List A) : Type 0 where
   pub room : n * w ≤ length l
