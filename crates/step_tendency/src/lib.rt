@@ -128,11 +128,8 @@ impl Lines<'_> {
         requires place_bound { place < 3 }
         ensures { Are line_sum_size result (along_line c.now self.entry.v.now line.start line.stride place) }
     {
-        c.iter()
-            .enumerate()
-            .map(|(q, wind)| {
-                wind * self.v[line.start + line.stride * q] * DERIVATIVE[SIDE * q + place]
-            })
+        (0..SIDE)
+            .map(|q| c[q] * self.v[line.start + line.stride * q] * DERIVATIVE[SIDE * q + place])
             .sum()
     }
 

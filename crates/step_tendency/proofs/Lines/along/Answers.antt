@@ -1,56 +1,42 @@
-use Rattle.std.proofs.Common.{rules, Bor}
-use Prim.Native.Nat.{ℕ, ◌+◌, ◌*◌, ◌<◌}
-use native.Mathlib.Omega.{arith}
-use lib.IntN.{ℤ, pos, ◌+ℤ◌}
-use Rattle.std.proofs.lemmas.Fn.{fronts}
-use Rattle.std.proofs.lemmas.Iterator.{YieldsList, YieldsList-from_slice, YieldsList-from_map}
-use Rattle.std.proofs.lemmas.Iterator.Consumers.{YieldsList-from_enumerate, YieldsList-at}
-use Rattle.std.proofs.lemmas.Iterator.Adapters.{total_from_yields_List, serves_from_places}
-use Rattle.std.specs.Iterator.Adapters.{enumerate_steps}
-use Rattle.std.specs.List.{enumerate_from}
-use Rattle.whole.specs.Bound.{AllWithin}
-use Rattle.rules.specs.Sizes.{stage_size}
-use Rattle.step_tendency.proofs.AlongLaws.{beginnings-fit, placed-wind, node-inside, first-fits, second-fits, made, all_made, sums-fit, sum-is}
+use Rattle.std.proofs.Common.{rules, tests, ℤ, arith}
+use Prim.Native.Nat.{ℕ}
+use mir.Syntax.{w64}
+use Rattle.whole.proofs.ChainSums.{below-items, below-sum_ℤ, below-fits_ℤ, serves-below}
+use Rattle.whole.proofs.Sizes.{sizes, fits, read_back, are-eq}
+use Rattle.step_tendency.proofs.Laws.{term, terms-are, terms-within}
+use Rattle.step_tendency.proofs.AlongLaws.{node-inside, first-fits, second-fits, term-is}
 use Rattle.step_tendency.proofs.Lines.along.Goals as goal
-use Rattle.step_tendency.proofs.Lines.along.Goals.{After-map}
+use Rattle.step_tendency.proofs.Lines.along.Goals.{Start}
 
--- the places with their winds, in turn
-placed : (c : After-map) → YieldsList {A = ℕ × Bor ℤ} (enumerate_steps fronts) (λ p. (p.0, p.1.now)) c.map.result.iter (enumerate_from 0 c.args.c.now)
-placed c = YieldsList-at c.map.ensures.source (YieldsList-from_enumerate (YieldsList-at c.enumerate.ensures.source (YieldsList-from_slice c.args.c.now (cc))) c.enumerate.ensures.count)
+-- the three terms
+abbrev terms : Start → ℕ → ℤ
+terms c = term c.args.c.now c.args.self.v.now c.args.line.start c.args.line.stride c.args.place
 
 pub sum-requires-clause-can : goal.sum-requires-clause-can
-sum-requires-clause-can c =
-    let f = c.map.result.f in
-    let e = c.map.ensures.closure in
-    let hv : AllWithin stage_size f.0.now = rw e c.args.self.values_small in
-    let hl : f.1.now + 2 * f.2.now < 9 = rw e c.requires.stride_bound in
-    let hp : f.3.now < 3 = rw e c.requires.place_bound in (
-      (tt, tt, search rules),
-      serves_from_places (placed (goal.at.sum-requires-clause-can c).After-map) (λ x q k. search rules)
-          (λ x k l t.
-          let w = placed-wind c.args.c.now (omega arith) c.requires.all_within (x.0, x.1.now) k l t in
-          let place = w.0 in
-          let i = f.1.now + f.2.now * x.0 in
-          let inside = node-inside f.1.now f.2.now x.0 hl w.0 in
-          let first = first-fits f.0.now i 0 x.1.now hv w.1 in
-          let second = second-fits f.0.now i (3 * x.0 + f.3.now) x.1.now hv w.1 in
-          search rules),
-    )
+sum-requires-clause-can c = (
+  tt,
+  serves-below 3 c.map.ensures.source (λ x q k. search rules) (λ k h.
+      let a = c.args in
+      let inside = node-inside a.line.start a.line.stride k c.requires.stride_bound h in
+      let place = c.requires.place_bound in
+      let hc = c.requires.all_within in
+      let hv = a.self.values_small in
+      let first = first-fits a.c.now a.self.v.now a.line.start a.line.stride a.place k hc hv in
+      let second = second-fits a.c.now a.self.v.now a.line.start a.line.stride a.place k hc hv in
+      search rules),
+)
 
 pub sum-requires-clause-fits : goal.sum-requires-clause-fits
 sum-requires-clause-fits c =
+    let t = terms (goal.at.sum-requires-clause-fits c).Start in
     let a = c.args in
-    let v = a.self.v.now in
-    let all = made v a.line.start a.line.stride a.place in
-    beginnings-fit c.map.result (all_made v a.line.start a.line.stride a.place a.c.now)
-    (YieldsList-from_map _ all (placed (goal.at.sum-requires-clause-fits c).After-map) c.map.ensures.closure (λ x r q k. (search rules, search rules)))
-    (sums-fit v a.line.start a.line.stride a.place a.c.now (omega arith) c.requires.all_within a.self.values_small)
+    below-fits_ℤ t 3 (below-items _ t _ 3 (λ x r q h k. search (rules, tests, term-is)) c.map.ensures.source c.map.ensures.closure)
+    (λ m l. let h = terms-within a.c.now a.self.v.now a.line.start a.line.stride a.place m c.requires.all_within a.self.values_small l in fits (search sizes depth 20) tt)
 
 pub returns : goal.returns
 returns c =
+    let t = terms (goal.at.returns c).Start in
     let a = c.args in
-    let v = a.self.v.now in
-    let all = made v a.line.start a.line.stride a.place in
-    sum-is v a.line.start a.line.stride a.place a.c.now (omega arith) c.requires.all_within a.self.values_small c.sum.result
-    (total_from_yields_List ◌+ℤ◌ (pos 0) c.sum.result c.sum.ensures.ran
-    (YieldsList-from_map _ all (placed (goal.at.returns c).After-map) c.map.ensures.closure (λ x r q k. (search rules, search rules))))
+    let b = terms-within a.c.now a.self.v.now a.line.start a.line.stride a.place 3 c.requires.all_within a.self.values_small (omega arith) in
+    let sum = below-sum_ℤ t 3 (below-items _ t _ 3 (λ x r q h k. search (rules, tests, term-is)) c.map.ensures.source c.map.ensures.closure) c.sum.ensures.ran in
+    are-eq (record { same = read_back w64 (record { same = sum; bound = b }) tt; bound = b }) (terms-are a.c.now a.self.v.now a.line.start a.line.stride a.place)
