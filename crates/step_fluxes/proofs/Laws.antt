@@ -39,15 +39,15 @@ module _ (v : List ℤ) (start stride : ℕ) where
   abbrev pub term : ℕ → ℤ
   term r = pos (quadratic.line_weight r) *ℤ at v (start + stride * r)
 
+  pub term-within : AllWithin (6 * stage_size) v → (r : ℕ) → r < 3 → Within (24 * stage_size) (term r)
+  term-within h r l = within-le (within-mul {a = pos (quadratic.line_weight r)} {b = at v (start + stride * r)} (record { within = line-weight-le r l }) (h.all (start + stride * r))) (omega arith)
+
   pub terms-within : AllWithin (6 * stage_size) v → (n : ℕ) → n ≤ 3 → Within face_sum_size (sum_ℤ n term)
   unfolding sum
-  terms-within h n l = within-le (within-sum n term bound each) (omega (arith, sum_mono bound n 3 l))
+  terms-within h n l = within-le (within-sum n term bound (λ r q. term-within h r (omega arith))) (omega (arith, sum_mono bound n 3 l))
     where
       bound : ℕ → ℕ
-      bound r = 4 * (6 * stage_size)
-
-      each : (r : ℕ) → r < n → Within (bound r) (term r)
-      each r q = within-mul {a = pos (quadratic.line_weight r)} {b = at v (start + stride * r)} (record { within = line-weight-le r (omega arith) }) (h.all (start + stride * r))
+      bound r = 24 * stage_size
 
 -- ---- the flux of a face
 -- the code's way: `nearest-floor` at 4096

@@ -2,7 +2,7 @@
 // Every function here is a leaf: what is lent has its length, and its numbers are as small as a step makes them.
 #![tactic(auto)]
 
-ghost use Rattle.std.specs.Prelude.{◌≡◌, cond, ◌+◌, ◌*◌, ◌<◌, length};
+ghost use Rattle.std.specs.Prelude.{◌≡◌, cond, ◌+◌, ◌*◌, ◌<◌, pos, ◌*ℤ◌, length};
 ghost use Rattle.whole.specs.Bound.{Within, Are, AllWithin};
 ghost use Rattle.whole.specs.Table.{table, at};
 ghost use Rattle.rules.specs.Field.{quadratic, faces};
@@ -69,17 +69,22 @@ pub struct Combined<'s, 'w> {
 }
 
 impl Combined<'_, '_> {
+    // The value at node r of a line, by its weight.
+    fn weighed(self, line: Line, r: usize) -> i64
+        requires room { line.start + 2 * line.stride < length self.values.now }
+        requires r_bound { r < 3 }
+        ensures value { result ≡ pos (quadratic.line_weight r) *ℤ at self.entry.values.now (line.start + line.stride * r) }
+        ensures small { Within (24 * stage_size) result }
+    {
+        line_weight(r) * self.values[line.start + line.stride * r]
+    }
+
     // The sum over a line of nodes: each value by its node's weight.
     fn line_sum(self, line: Line) -> i64
         requires { line.start + 2 * line.stride < length self.values.now }
         ensures { Are face_sum_size result (line_sum self.entry.values.now line.start line.stride) }
     {
-        let mut sum: i64 = 0;
-        // By number: a node's number gives its weight and its place.
-        for r in 0..SIDE {
-            sum += line_weight(r) * self.values[line.start + line.stride * r];
-        }
-        sum
+        (0..SIDE).map(|r| self.weighed(line, r)).sum()
     }
 
     // The flux of a face.
