@@ -7,7 +7,7 @@ use native.Mathlib.Omega.{arith}
 use lib.IntN.{ℤ, pos, nat_abs, ◌+ℤ◌, ◌*ℤ◌}
 use lib.Signed.{non_neg}
 use Rattle.whole.specs.Table.{at}
-use Rattle.whole.specs.Bound.{Within, AllWithin, floor_div}
+use Rattle.whole.specs.Bound.{Within, Are, AllWithin, floor_div}
 use Rattle.whole.specs.Sum.{sum, sum_ℤ}
 use Rattle.whole.proofs.BoundLaws.{within-le, within-mul, within-sum}
 use Rattle.whole.proofs.NearestFloor.{nearest-floor}
@@ -24,8 +24,8 @@ use Rattle.step_upwind.specs.Upwind.{stage_length, as_stage, upwind_start}
 use Rattle.step_upwind.proofs.TendencyLaws.{upwind-east-at, upwind-north-at}
 use Rattle.step_fluxes.specs.Face.{combined, line_sum, face_flux}
 use mir.Syntax.{w64}
-use mir.Val.{to_z, of_z}
-use Rattle.whole.proofs.Sizes.{exacts, exact}
+use mir.Val.{to_z, of_z, SFits}
+use Rattle.whole.proofs.Sizes.{sizes, exacts, fits, exact}
 
 -- ---- the combined value of a node, as the machine computes it
 abbrev pub B : ℤ → ℤ
@@ -48,6 +48,14 @@ module _ (v : List ℤ) (start stride : ℕ) where
     where
       bound : ℕ → ℕ
       bound r = 24 * stage_size
+
+-- a weight, as the code gives it, times a value
+module _ {x w : ℤ} {r : ℕ} (h : Within (6 * stage_size) x) (l : r < 3) (g : Are 4 w (pos (quadratic.line_weight r))) where
+  pub term-fits : SFits w64 (B w *ℤ B x)
+  term-fits = fits (search sizes depth 20) tt
+
+  pub term-is : B (B w *ℤ B x) ≡ pos (quadratic.line_weight r) *ℤ x
+  term-is = exact (search exacts depth 20) tt
 
 -- ---- the flux of a face
 -- the code's way: `nearest-floor` at 4096

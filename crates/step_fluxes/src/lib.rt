@@ -69,22 +69,14 @@ pub struct Combined<'s, 'w> {
 }
 
 impl Combined<'_, '_> {
-    // The value at node r of a line, by its weight.
-    fn weighed(self, line: Line, r: usize) -> i64
-        requires room { line.start + 2 * line.stride < length self.values.now }
-        requires r_bound { r < 3 }
-        ensures value { result ≡ pos (quadratic.line_weight r) *ℤ at self.entry.values.now (line.start + line.stride * r) }
-        ensures small { Within (24 * stage_size) result }
-    {
-        line_weight(r) * self.values[line.start + line.stride * r]
-    }
-
     // The sum over a line of nodes: each value by its node's weight.
     fn line_sum(self, line: Line) -> i64
         requires { line.start + 2 * line.stride < length self.values.now }
         ensures { Are face_sum_size result (line_sum self.entry.values.now line.start line.stride) }
     {
-        (0..SIDE).map(|r| self.weighed(line, r)).sum()
+        (0..SIDE)
+            .map(|r| line_weight(r) * self.values[line.start + line.stride * r])
+            .sum()
     }
 
     // The flux of a face.

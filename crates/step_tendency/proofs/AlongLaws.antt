@@ -1,4 +1,4 @@
--- The terms of the sum along a line, as the machine makes them: each fits 64 bits and is the term itself.
+-- The terms of the sum along a line: where their nodes stand, and that each, as the machine makes it, fits 64 bits and is the term itself.
 use mathlib.Core.Path.{◌≡◌}
 use mathlib.Core.List.{List}
 use Prim.Native.Nat.{ℕ, zero, suc, ◌+◌, ◌*◌, ◌<◌}
@@ -14,12 +14,12 @@ use Rattle.rules.specs.Sizes.{stage_size}
 use Rattle.step_tendency.specs.Sizes.{place_wind_size}
 use Rattle.step_tendency.proofs.Laws.{derivatives, term}
 
--- a node of a line is one of the element's
-pub node-inside : (start stride q : ℕ) → start + 2 * stride < 9 → q < 3 → start + stride * q < 9
-node-inside start stride zero h l = omega (arith, h)
-node-inside start stride (suc zero) h l = omega (arith, h)
-node-inside start stride (suc (suc zero)) h l = omega (arith, h)
-node-inside start stride (suc (suc (suc q))) h l = let f : ⊥ = omega (arith, l) in absurd f
+-- a node of a line stands where the line's last one does, or before
+pub node-inside : (n start stride q : ℕ) → start + 2 * stride < n → q < 3 → start + stride * q < n
+node-inside n start stride zero h l = omega (arith, h)
+node-inside n start stride (suc zero) h l = omega (arith, h)
+node-inside n start stride (suc (suc zero)) h l = omega (arith, h)
+node-inside n start stride (suc (suc (suc q))) h l = let f : ⊥ = omega (arith, l) in absurd f
 
 module _ (c v : List ℤ) (start stride place q : ℕ) (hc : AllWithin place_wind_size c) (hv : AllWithin stage_size v) where
   pub first-fits : SFits w64 (to_z w64 (of_z w64 (at c q)) *ℤ to_z w64 (of_z w64 (at v (start + stride * q))))

@@ -1,32 +1,37 @@
-use Rattle.std.proofs.Common.{rules, arith, ◌≡◌, ap, ◌∙◌, ◌*◌}
-use lib.IntN.{pos, ◌+ℤ◌}
-use Rattle.std.specs.List.{fold}
-use Rattle.whole.specs.Bound.{Within}
+use Rattle.std.proofs.Common.{rules, tests, ℤ, length, arith}
+use Prim.Native.Nat.{ℕ, ◌+◌, ◌*◌}
 use mir.Syntax.{w64}
-use mir.Val.{to_z, of_z}
-use Rattle.whole.proofs.Sizes.{sizes, fits, back_is}
-use Rattle.rules.specs.Sizes.{stage_size}
-use Rattle.step_fluxes.specs.Face.{line_sum}
-use Rattle.std.proofs.lemmas.Iterator.{serves_from_Range}
-use Rattle.step_fluxes.proofs.Laws.{term, terms-within}
-use Rattle.step_fluxes.proofs.RunSums.{run-within, run-sum}
+use Rattle.whole.proofs.ChainSums.{below-items, below-sum_ℤ, below-fits_ℤ, serves-below}
+use Rattle.whole.proofs.Sizes.{sizes, fits, read_back}
+use Rattle.step_tendency.proofs.AlongLaws.{node-inside}
+use Rattle.step_fluxes.proofs.Laws.{term, term-fits, term-is, terms-within}
 use Rattle.step_fluxes.proofs.Combined.line_sum.Goals as goal
+use Rattle.step_fluxes.proofs.Combined.line_sum.Goals.{Start}
+
+-- the three terms
+abbrev terms : Start → ℕ → ℤ
+terms c = term c.args.self.values.now c.args.line.start c.args.line.stride
 
 pub sum-requires-clause-can : goal.sum-requires-clause-can
-sum-requires-clause-can c = (tt, serves_from_Range (λ x q r. search rules) (λ x a b. λ κs p n m z u v w. (rw c.map.ensures.closure c.requires, omega (arith, b, ap (λ r. r.end) c.map.ensures.source))))
+sum-requires-clause-can c = (
+  tt,
+  serves-below 3 c.map.ensures.source (λ x q k. search rules) (λ k h.
+      let inside = node-inside (length c.args.self.values.now) c.args.line.start c.args.line.stride k c.requires h in
+      let small = c.args.self.small.all (c.args.line.start + c.args.line.stride * k) in
+      search (rules, term-fits)),
+)
 
 pub sum-requires-clause-fits : goal.sum-requires-clause-fits
-sum-requires-clause-fits c = λ p s e.
-    let r = c.map.ensures.runs p s e in
-    let small : Within (3 * (24 * stage_size)) (fold ◌+ℤ◌ (pos 0) p.items) = run-within _ _ 3 (24 * stage_size) (λ x y called. search rules) p r.0 r.2 (λ a y f called. search rules) r.1 in
-    fits (search sizes depth 20) tt
+sum-requires-clause-fits c =
+    let t = terms (goal.at.sum-requires-clause-fits c).Start in
+    let a = c.args in
+    below-fits_ℤ t 3 (below-items _ t _ 3 (λ x r q h k. let small = a.self.small.all (a.line.start + a.line.stride * x) in search (rules, tests, term-is)) c.map.ensures.source c.map.ensures.closure)
+    (λ m l. let h = terms-within a.self.values.now a.line.start a.line.stride a.self.small m l in fits (search sizes depth 20) tt)
 
 pub returns : goal.returns
 returns c =
-    let v = c.args.self.values.now in
-    let l = c.args.line in
-    let w = c.sum.ensures.runs tt in
-    let r = c.map.ensures.runs w.0 w.0.seen w.1 in
-    let sum : c.sum.result ≡ line_sum v l.start l.stride = w.3 ∙ run-sum _ _ 3 (term v l.start l.stride) w.0 r.0 r.2 (λ x y f called. search rules) w.2 r.1 in
-    let small = terms-within v l.start l.stride c.args.self.small 3 (omega arith) in
-    record { same = ap (λ z. to_z w64 (of_z w64 z)) sum ∙ back_is w64 (line_sum v l.start l.stride) small tt; bound = small }
+    let t = terms (goal.at.returns c).Start in
+    let a = c.args in
+    let b = terms-within a.self.values.now a.line.start a.line.stride a.self.small 3 (omega arith) in
+    let sum = below-sum_ℤ t 3 (below-items _ t _ 3 (λ x r q h k. let small = a.self.small.all (a.line.start + a.line.stride * x) in search (rules, tests, term-is)) c.map.ensures.source c.map.ensures.closure) c.sum.ensures.ran in
+    record { same = read_back w64 (record { same = sum; bound = b }) tt; bound = b }

@@ -17,7 +17,7 @@ sum-requires-clause-can c = (
   tt,
   serves-below 3 c.map.ensures.source (λ x q k. search rules) (λ k h.
       let a = c.args in
-      let inside = node-inside a.line.start a.line.stride k c.requires.stride_bound h in
+      let inside = node-inside 9 a.line.start a.line.stride k c.requires.stride_bound h in
       let place = c.requires.place_bound in
       let hc = c.requires.all_within in
       let hv = a.self.values_small in
