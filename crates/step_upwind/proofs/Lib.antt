@@ -1,3 +1,4 @@
 pub mod Laws
 pub mod TendencyLaws
 pub mod ListedLaws
+pub mod ArrayMap

@@ -54,13 +54,7 @@ impl Winds<'_> {
             grid: self.grid,
             index,
         };
-        let [west, east, south, north] = element.sides();
-        [
-            i64::from(self.wind[west]),
-            i64::from(self.wind[east]),
-            i64::from(self.wind[south]),
-            i64::from(self.wind[north]),
-        ]
+        element.sides().map(|face| self.at_face(face))
     }
 }
 
