@@ -119,7 +119,8 @@ fn set_values(next: &mut [i64], first: &[i64], sums: &[i64], pass: Pass)
     }
 }
 
-// From a stage to the next one: the sums with its tendencies, and from them and stage 0 the next one's values.
+// From a stage to the next one: the sums with its tendencies, and from them and stage 0 the next one's values. Stage 0 is lent as a slice, since
+// its numbers are smaller than those of a `Stage`.
 pub fn advance(next: &mut [i64], sums: &mut [i64], first: &[i64], from: Stage, pass: Pass)
     requires next_len { length next.old ≡ length from.phi.now }
     requires sums_len { length sums.old ≡ length from.phi.now }
