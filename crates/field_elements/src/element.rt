@@ -1,4 +1,5 @@
 // One element's ten numbers. Leaves: the part has ten numbers, and masses are within the limit. A step uses the mass, too.
+// Emission and withdrawal stay two functions, of two calls: they differ in the target's sign and in the closing, and only `values` is the same.
 ghost use Rattle.std.specs.Prelude.{◌≡◌, ◌+◌, ◌≤◌, pos, length, get_or};
 ghost use Rattle.whole.specs.Table.{table};
 ghost use Rattle.rules.specs.Field.{quadratic, mass, limit};

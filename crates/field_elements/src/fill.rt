@@ -23,9 +23,8 @@ pub fn loaded_total(numbers: &[u32], n: usize) -> u64
 }
 
 // One element's nine values, and remainder 0.
-fn lay_element(part: &mut [u32], numbers: &[u32])
-    requires part_len { length part.old ≡ 10 }
-    requires numbers_len { length numbers.now ≡ 9 }
+fn lay_element(part: &mut [u32], numbers: &[u32; NODES])
+    requires { length part.old ≡ 10 }
     ensures { part.new ≡ loaded_element quadratic numbers.now 0 }
 {
     part[..NODES].copy_from_slice(numbers);

@@ -64,10 +64,9 @@ pub fn masses(masses: &mut [i64], part: &[u32])
     requires within_limit { (e : ℕ) → e < length masses.old → mass quadratic part.now e ≤ limit }
     ensures { masses.new ≡ table (length masses.old) (λ e. pos (mass quadratic part.now e)) }
 {
+    let (elements, _) = part.as_chunks::<NUMBERS>();
     for (e, mass) in masses.iter_mut().enumerate() {
-        let start = e * NUMBERS;
-        let end = start + NUMBERS;
-        *mass = element::mass(&part[start..end]) as i64; // std has no `From` for it; the limit is far below
+        *mass = element::mass(&elements[e]) as i64; // std has no `From` for it; the limit is far below
     }
 }
 
