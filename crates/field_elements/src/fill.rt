@@ -31,7 +31,8 @@ fn lay_element(part: &mut [u32], numbers: &[u32; NODES])
     part[NODES] = 0;
 }
 
-// Loads n elements. The part is written by place: chunks_exact_mut was tried, and after its loop a proof knows no number of the part.
+// Loads n elements. What is written is lent by number: of the parts that `chunks_exact_mut` has lent (tried), a proof knows only how many they
+// are.
 pub fn lay(part: &mut [u32], numbers: &[u32], n: usize)
     requires part_len { length part.old ≡ n * 10 }
     requires n_le_most_elements { n ≤ most_elements }

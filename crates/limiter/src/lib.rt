@@ -100,6 +100,7 @@ impl Raised<'_> {
     {
         let target = self.closing.target;
         let p = self.sum();
+        // Added by hand in the loop that writes: a chain of its own would divide for every value once more.
         let mut sum = 0;
         for (k, number) in part[..NODES].iter_mut().enumerate() {
             let y = rescale(p, target, self.truncated(k));

@@ -1,6 +1,6 @@
 // The stages of a step: document 01's φ0, φ1, φ2 and, as stage 3, the tentative ψ, each a list of nine numbers an element.
-// Every function here is a leaf: what is lent has its length, and its numbers are as small as the stages are. Of what is written a clause says
-// its length: `next` is another slice in each pass, so that a struct of `&mut` slices would be made anew for each.
+// Every function here is a leaf: what is lent has its length, and its numbers are as small as the stages are. Of what is written clauses say
+// its length and size: `next` is another slice in each pass, so that a struct of `&mut` slices would be made anew for each.
 #![tactic(auto)]
 
 ghost use Rattle.std.specs.Prelude.{◌≡◌, ◌+◌, pos, ◌+ℤ◌, ◌*ℤ◌, length, get_or};
