@@ -1,5 +1,6 @@
 // The step of one tracer under the wind.
-// The call has no `requires`: what document 01 doesn't admit is refused by its number, and a refused call writes nothing.
+// The call has no `requires`: what document 01 doesn't admit is refused by its number, and a refused call writes nothing. Its buffers are lent one by
+// one, as document 01 names them.
 #![tactic(auto)]
 
 ghost use Rattle.std.specs.Prelude.{◌≡◌, ◌&&◌, leb};

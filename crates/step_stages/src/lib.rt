@@ -25,7 +25,7 @@ pub enum Pass {
     Third,
 }
 
-// Of the passes.
+// How often the tendency of the stage that a pass begins with counts, for each pass.
 const FACTORS: [i64; 3] = [1, 1, 4];
 
 impl Pass {
