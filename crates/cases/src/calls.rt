@@ -75,6 +75,13 @@ impl<'a, P: Print> Case<'a, P> {
         println!(rt; "{change}, {edge}: {answer}{left}")
     }
 
+    // The calls on an element, with 5 as the amount.
+    pub(crate) fn on_element(&self, field: [u32; 59], place: Place) -> io::Result<()> {
+        self.apply(field, place, Change::Emission(5))?;
+        self.apply(field, place, Change::Withdrawal(5))?;
+        self.mass(field, place)
+    }
+
     pub(crate) fn wind(&self, before: [i16; 5], face: Face) -> io::Result<()> {
         let Case { rt, edge, shape } = *self;
         let mut after = before;

@@ -12,32 +12,43 @@ pub(crate) fn run(rt: &impl Print) -> io::Result<()> {
     full_emissions(rt)
 }
 
-fn east_winds(rt: &impl Print) -> io::Result<()> {
-    for (edge, wind) in [
-        ("1024 at (1, 0)", 1024),
-        ("-1024 at (1, 0)", -1024),
-        ("1025 at (1, 0)", 1025),
-        ("-1025 at (1, 0)", -1025),
-        ("32767 at (1, 0)", i16::MAX),
-        ("-32768 at (1, 0)", i16::MIN),
-    ] {
-        let face = calls::face(Way::East, 1, 0, wind);
+// Winds of the face of element (i, 0) that looks one way.
+fn winds(rt: &impl Print, way: Way, i: usize, rows: &[(&str, i16)]) -> io::Result<()> {
+    for &(edge, wind) in rows {
+        let face = calls::face(way, i, 0, wind);
         Case::new(rt, edge, buffers::pair()).wind(buffers::winds(), face)?;
     }
     Ok(())
 }
 
+fn east_winds(rt: &impl Print) -> io::Result<()> {
+    winds(
+        rt,
+        Way::East,
+        1,
+        &[
+            ("1024 at (1, 0)", 1024),
+            ("-1024 at (1, 0)", -1024),
+            ("1025 at (1, 0)", 1025),
+            ("-1025 at (1, 0)", -1025),
+            ("32767 at (1, 0)", i16::MAX),
+            ("-32768 at (1, 0)", i16::MIN),
+        ],
+    )
+}
+
 fn north_winds(rt: &impl Print) -> io::Result<()> {
-    for (edge, wind) in [
-        ("1024 at (0, 0)", 1024),
-        ("-1024 at (0, 0)", -1024),
-        ("1025 at (0, 0)", 1025),
-        ("-1025 at (0, 0)", -1025),
-    ] {
-        let face = calls::face(Way::North, 0, 0, wind);
-        Case::new(rt, edge, buffers::pair()).wind(buffers::winds(), face)?;
-    }
-    Ok(())
+    winds(
+        rt,
+        Way::North,
+        0,
+        &[
+            ("1024 at (0, 0)", 1024),
+            ("-1024 at (0, 0)", -1024),
+            ("1025 at (0, 0)", 1025),
+            ("-1025 at (0, 0)", -1025),
+        ],
+    )
 }
 
 fn withdrawals(rt: &impl Print) -> io::Result<()> {

@@ -18,15 +18,11 @@ fn unsound(rt: &impl Print) -> io::Result<()> {
     let shape = buffers::pair();
     let place = calls::at(2, 0, 0);
     let case = Case::new(rt, "remainder 36, tracer 2", shape);
-    case.apply(odd, place, Change::Emission(5))?;
-    case.apply(odd, place, Change::Withdrawal(5))?;
-    case.mass(odd, place)?;
+    case.on_element(odd, place)?;
     case.total(odd, 2)?;
     let place = calls::at(0, 2, 0);
     let case = Case::new(rt, "remainder 36, element (2, 0)", shape);
-    case.apply(odd, place, Change::Emission(5))?;
-    case.apply(odd, place, Change::Withdrawal(5))?;
-    case.mass(odd, place)
+    case.on_element(odd, place)
 }
 
 // Tracer 0 is unsound, and the call is on tracer 1 or is a load.
@@ -35,9 +31,7 @@ fn unsound_elsewhere(rt: &impl Print) -> io::Result<()> {
     let shape = buffers::pair();
     let place = calls::at(1, 0, 0);
     let case = Case::new(rt, "remainder 36 in the other tracer", shape);
-    case.apply(odd, place, Change::Emission(5))?;
-    case.apply(odd, place, Change::Withdrawal(5))?;
-    case.mass(odd, place)?;
+    case.on_element(odd, place)?;
     case.total(odd, 1)?;
     let numbers = buffers::numbers();
     Case::new(rt, "over a remainder 36", shape).load(odd, numbers, 0)

@@ -1,6 +1,6 @@
 // Each refusal of each call.
 use super::buffers;
-use super::calls::{self, Case, Change, Place};
+use super::calls::{self, Case, Change};
 use rules::Way;
 use std::io;
 
@@ -14,15 +14,8 @@ pub(crate) fn run(rt: &impl Print) -> io::Result<()> {
 
 // The calls on an element and on a tracer, at a tracer and its first element.
 fn on_first_element(case: &Case<impl Print>, field: [u32; 59], tracer: usize) -> io::Result<()> {
-    on_element(case, field, calls::at(tracer, 0, 0))?;
+    case.on_element(field, calls::at(tracer, 0, 0))?;
     case.total(field, tracer)
-}
-
-// The calls on an element.
-fn on_element(case: &Case<impl Print>, field: [u32; 59], place: Place) -> io::Result<()> {
-    case.apply(field, place, Change::Emission(5))?;
-    case.apply(field, place, Change::Withdrawal(5))?;
-    case.mass(field, place)
 }
 
 // Every call with a shape.
@@ -124,5 +117,5 @@ fn with_element(case: &Case<impl Print>, i: usize, j: usize) -> io::Result<()> {
     for way in [Way::East, Way::North] {
         case.wind(buffers::winds(), calls::face(way, i, j, 5))?;
     }
-    on_element(case, buffers::sample(), calls::at(0, i, j))
+    case.on_element(buffers::sample(), calls::at(0, i, j))
 }
