@@ -1,7 +1,7 @@
 // The calls on a field: emission, withdrawal, load, fresh and wind here, the readings in readings.rt.
 // A call has no `requires`: what document 01 doesn't admit is refused by its number, and a refused call writes nothing.
-// It is lent shape, tracer, i and j one by one, as document 01 names them: each may be wrong, with a refusal of its own. Two functions alone ask for
-// an element that is there (`Inside`); a type for it would be made and taken apart again beside each of them.
+// It is lent shape, tracer, i and j one by one, as document 01 names them: each may be wrong, with a refusal of its own. Two functions ask
+// for an element that is there and one for a face (`Inside`); a type for it would be made and taken apart again beside each of them.
 #![tactic(auto)]
 
 ghost use Rattle.rules.specs.Field.{quadratic};

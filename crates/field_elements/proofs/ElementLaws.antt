@@ -6,10 +6,8 @@ use native.Mathlib.Nat.{zero-add, one-mul, mul-le-mul}
 use native.Mathlib.Decide.{dec_lt}
 use native.Mathlib.Omega.{arith}
 use borrow.Author.Tests.{lt-ltb, le-ltb}
-use lib.ListN.{length, get_or, take}
-use lib.Seq.{length-take-le, get_or-take}
+use lib.ListN.{length, get_or}
 use Rattle.std.specs.List.{sum_by, enumerate_from}
-use Rattle.whole.specs.Sum.{sum}
 use Rattle.whole.proofs.ChainSums.{sum_by-numbered}
 use mir.Syntax.{w32, w64}
 use mir.Val.{Fits}
@@ -46,17 +44,15 @@ pub weighed-more : (κ : Kind) (l : List ℕ) (start n : ℕ) → weighed κ l s
 unfolding weighed
 weighed-more κ l start n = sum_more n (λ v. number_weight κ v * get_or l (start + v) 0)
 
--- a chain over the first n numbers, each with its place
+-- a chain over numbers, each with its place
 abbrev pub number_term : ℕ × ℕ → ℕ
 number_term p = number_weight quadratic p.0 * p.1
 
-pub weighed-chain : (l : List ℕ) (n : ℕ) → n ≤ length l → sum_by number_term (enumerate_from 0 (take n l)) ≡ weighed quadratic l 0 n
+pub weighed-chain : (l : List ℕ) → sum_by number_term (enumerate_from 0 l) ≡ weighed quadratic l 0 (length l)
 unfolding weighed
-weighed-chain l n h =
-    sum_by-numbered number_term (take n l) 0
-    ∙ ap (λ m. sum m (λ v. number_weight quadratic v * get_or (take n l) v 0)) (length-take-le n l h)
-    ∙ sum-cong n (λ v. number_weight quadratic v * get_or (take n l) v 0) (λ v. number_weight quadratic v * get_or l (0 + v) 0)
-    (λ v k. ap (λ x. number_weight quadratic v * x) (get_or-take n l v 0 k ∙ ap (λ i. get_or l i 0) (sym (zero-add v))))
+weighed-chain l =
+    sum_by-numbered number_term l 0
+    ∙ sum-cong (length l) (λ v. number_weight quadratic v * get_or l v 0) (λ v. number_weight quadratic v * get_or l (0 + v) 0) (λ v k. ap (λ i. number_weight quadratic v * get_or l i 0) (sym (zero-add v)))
 
 pub weighed-le : (l : List ℕ) (n : ℕ) → ((v : ℕ) → Fits w32 (get_or l v 0)) → weighed quadratic l 0 n ≤ n * (16 * 2 ^ 32)
 unfolding weighed

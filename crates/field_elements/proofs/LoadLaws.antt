@@ -15,6 +15,7 @@ use Rattle.whole.specs.Sum.{sum}
 use Rattle.whole.proofs.ChainSums.{sum_by-places}
 use Rattle.whole.proofs.SumLaws.{sum-le-each, sum-cong}
 use lib.Seq.{length-take-le, get_or-take}
+use Rattle.std.proofs.Common.{length-drop}
 use Rattle.std.specs.Simd.{first_chunks}
 use Rattle.whole.proofs.ListParts.{chunk-at}
 use Rattle.whole.proofs.OverwriteLaws.{part_at}
@@ -54,7 +55,7 @@ lent-chunk l cs n e same long room h =
 
 -- a chain that weighs each of the first n chunks
 abbrev pub chunk-weight : List ℕ → ℕ
-chunk-weight x = weighed quadratic x 0 9
+chunk-weight x = weighed quadratic x 0 (length x)
 
 pub loaded-chain : (l : List ℕ) (cs : List (List ℕ)) (n : ℕ) → cs ≡ first_chunks 9 (length l / 9) l → length cs ≡ length l / 9 → n * 9 ≤ length l
     → sum_by chunk-weight (take n cs) ≡ sum n (λ e. weighted quadratic (loaded_value quadratic l e))
@@ -62,7 +63,9 @@ loaded-chain l cs n same long room =
     let many : length (take n cs) ≡ n = length-take-le n cs (omega arith) in
     sum_by-places chunk-weight (take n cs) []
     ∙ ap (λ m. sum m (λ e. chunk-weight (get_or (take n cs) e []))) many
-    ∙ sum-cong n (λ e. chunk-weight (get_or (take n cs) e [])) (λ e. weighted quadratic (loaded_value quadratic l e)) (λ e h. ap chunk-weight (lent-chunk l cs n e same long room (omega arith)).1 ∙ weighed-part l e 9 refl)
+    ∙ sum-cong n (λ e. chunk-weight (get_or (take n cs) e [])) (λ e. weighted quadratic (loaded_value quadratic l e)) (λ e h.
+    let nine : length (take 9 (drop (e * 9) l)) ≡ 9 = length-take-le 9 (drop (e * 9) l) (omega (arith, length-drop (e * 9) l)) in
+    ap chunk-weight (lent-chunk l cs n e same long room (omega arith)).1 ∙ ap (weighed quadratic (take 9 (drop (e * 9) l)) 0) nine ∙ weighed-part l e 9 refl)
 
 pub loaded-le : (l : List ℕ) (n : ℕ) → ((i : ℕ) → Fits w32 (get_or l i 0)) → sum n (λ e. weighted quadratic (loaded_value quadratic l e)) ≤ n * (9 * (16 * 2 ^ 32))
 unfolding weighted loaded_value quadratic

@@ -1,4 +1,5 @@
 // One element's ten numbers. Leaves: the part has ten numbers, and masses are within the limit. A step uses the mass, too.
+// The ten numbers are lent as a slice, as the closing is lent them; `mass` and `values` read the part that emission and withdrawal then write.
 // Emission and withdrawal stay two functions, of two calls: they differ in the target's sign and in the closing, and only `values` is the same.
 ghost use Rattle.std.specs.Prelude.{◌≡◌, ◌+◌, ◌≤◌, pos, length, get_or};
 ghost use Rattle.whole.specs.Table.{table};
@@ -7,7 +8,7 @@ ghost use Rattle.rules.specs.Calls.{emitted, withdrawn};
 ghost use Rattle.field_elements.specs.Weighing.{number_weight, weighed, most_weighed};
 
 use limiter::Closing;
-use rules::element::{NODES, NUMBERS, node_weight};
+use rules::element::{NODES, node_weight};
 use std::array;
 
 // The weight of number v of an element: a node's, and 1 for the remainder.
@@ -17,14 +18,13 @@ pub fn number_weight(v: usize) -> u64
     if v < NODES { node_weight(v) } else { 1 }
 }
 
-// The weighted sum of the first n of an element's numbers.
-pub fn weigh(numbers: &[u32], n: usize) -> u64
-    requires n_bound { n ≤ 10 }
-    requires n_in_bounds { n ≤ length numbers.now }
-    ensures value { result ≡ weighed quadratic numbers.now 0 n }
+// The weighted sum of an element's numbers, or of its values alone.
+pub fn weigh(numbers: &[u32]) -> u64
+    requires { length numbers.now ≤ 10 }
+    ensures value { result ≡ weighed quadratic numbers.now 0 (length numbers.now) }
     ensures upper_bound { result ≤ most_weighed }
 {
-    numbers[..n]
+    numbers
         .iter()
         .enumerate()
         .map(|(v, number)| number_weight(v) * u64::from(*number))
@@ -36,7 +36,7 @@ pub fn mass(part: &[u32]) -> u64
     requires { length part.now ≡ 10 }
     ensures { result ≡ mass quadratic part.now 0 }
 {
-    weigh(part, NUMBERS)
+    weigh(part)
 }
 
 // An element's nine values, signed.

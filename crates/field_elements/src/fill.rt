@@ -1,4 +1,5 @@
-// Loops that fill a buffer from its front. Leaves: the buffer is long enough.
+// A load: its total, and the elements that it fills. Leaves: the buffers are long enough. One n says of a part and of the numbers to load how many
+// elements are meant; without it a clause would compare their two lengths.
 ghost use Rattle.std.specs.Prelude.{◌≡◌, ◌*◌, ◌≤◌, length};
 ghost use Rattle.whole.specs.Sum.{sum};
 ghost use Rattle.whole.specs.Table.{blocks};
@@ -18,7 +19,7 @@ pub fn loaded_total(numbers: &[u32], n: usize) -> u64
     let (elements, _) = numbers.as_chunks::<NODES>();
     elements[..n]
         .iter()
-        .map(|element| element::weigh(element, NODES))
+        .map(|element| element::weigh(element))
         .sum()
 }
 
@@ -31,8 +32,8 @@ fn lay_element(part: &mut [u32], numbers: &[u32; NODES])
     part[NODES] = 0;
 }
 
-// Loads n elements. What is written is lent by number: of the parts that `chunks_exact_mut` has lent (tried), a proof knows only how many they
-// are.
+// Loads n elements. What is written is lent by number: of what stands in parts that `chunks_exact_mut` has lent (tried), a proof knows nothing
+// afterwards.
 pub fn lay(part: &mut [u32], numbers: &[u32], n: usize)
     requires part_len { length part.old ≡ n * 10 }
     requires n_le_most_elements { n ≤ most_elements }

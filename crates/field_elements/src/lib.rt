@@ -1,5 +1,5 @@
-// Leaves on parts of a field: one element's numbers, and loops that fill a buffer. The calls have made their checks before.
+// Leaves on parts of a field: one element's numbers, and a load. The calls have made their checks before.
 #![tactic(auto)]
 
 pub mod element; // element.rt: one element's ten numbers
-pub mod fill; // fill.rt: loops that fill a buffer
+pub mod fill; // fill.rt: a load

@@ -11,6 +11,7 @@ use borrow.Author.Tests.{lt-leb, le-leb, lt-ltb, le-ltb, ltb-true, ltb-false, eq
 use lib.Dec.{eqb, ltb}
 use lib.ListN.{get_or}
 use Rattle.whole.specs.Sum.{sum, all}
+use Rattle.whole.proofs.Cases.{and-false}
 use Rattle.whole.proofs.SumLaws.{sum_more, sum_mono, all_more, all-fails}
 use Rattle.rules.specs.declared.Shape.{Shape}
 use Rattle.std.specs.Prelude.{Result, Ok, Err, is_ok}
@@ -116,10 +117,6 @@ module _ {p : List ℕ} {n start : ℕ} where
         place = omega (arith, h.place);
       }
 
-both_false : (b : Bool) → (b && false) ≡ false
-both_false true = refl
-both_false false = refl
-
 -- ---- the ways out
 module _ (g : Shape) {p : List ℕ} {n start s : ℕ} {b : Bool} (h : BetweenElements p n start s b) where
   -- an element of the grid has its numbers within its tracer's
@@ -150,7 +147,7 @@ module _ (g : Shape) {p : List ℕ} {n start s : ℕ} {b : Bool} (h : BetweenEle
           let here : total_to p n + weighed quadratic p start (v + 1) ≡ t + w * x = rw (weighed-more quadratic p start v, ← e, ← q) (omega (arith, k.masses)) in
           let more : weighed quadratic p start (v + 1) ≤ weighed quadratic p start 10 = sum_mono (λ v. number_weight quadratic v * get_or p (start + v) 0) (v + 1) 10 (omega arith) in
           let all = rw (← h.place) at (total-more p n) in
-          rw (lt-leb (total quadratic g p) limit (omega (arith, sum_mono (mass quadratic p) (n + 1) (elements g) (omega arith))), both_false)
+          rw (lt-leb (total quadratic g p) limit (omega (arith, sum_mono (mass quadratic p) (n + 1) (elements g) (omega arith))), and-false)
 
 -- ---- what the search answers, by whether the part is sound, and back
 module _ (g : Shape) (p : List ℕ) where

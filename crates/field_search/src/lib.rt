@@ -26,15 +26,11 @@ const LARGEST_REMAINDER: u64 = 35;
 pub const LIMIT: u64 = 100_000_000;
 
 // Whether a search of a tracer ends at number v of an element: x is a remainder above 35, or sum, the total with it, is above the limit.
+#[tactic(auto, unfolding(crate::specs::Search::breaks))]
 pub fn breaks(v: usize, x: u64, sum: u64) -> bool
     ensures { result ≡ breaks v x sum }
 {
-    if v == NODES {
-        if LARGEST_REMAINDER < x {
-            return true;
-        }
-    }
-    LIMIT < sum
+    v == NODES && LARGEST_REMAINDER < x || LIMIT < sum
 }
 
 // A tracer's numbers, wherever they are read from: a part of the field, or a section of a file.
@@ -68,8 +64,8 @@ pub fn search<N: Numbers>(numbers: &N, grid: Grid) -> Result<u64, Refusal>
 {
     let Shape { nx, ny, .. } = grid.shape;
     let mut sum = 0;
-    // Labelled loops by rows, elements and numbers, left by a label and by no `return`, are document 01's form. A `for` that is left so has no
-    // value: hence a flag, beside the sum.
+    // Document 01 names the form: "nested labelled loops left from the innermost". A `for` that is left by its label has no value, and of a labelled
+    // block around the loops it would be the block that is left: hence a flag, beside the sum.
     let mut sound = true;
     let mut start = 0;
     'rows: for j in 0..ny {

@@ -1,6 +1,6 @@
 -- What an accepted reading and an accepted writing have shown; what is so is accepted.
-use mathlib.Core.Path.{◌≡◌, refl, sym, ap, subst, ◌∙◌}
-use mathlib.Core.Bool.{Bool, true, false, ◌&&◌, cond}
+use mathlib.Core.Path.{◌≡◌, sym, ap, subst, ◌∙◌}
+use mathlib.Core.Bool.{Bool, true, false, ◌&&◌}
 use mathlib.Core.List.{List, [], ◌∷◌}
 use Prim.Native.Nat.{ℕ, ◌≤◌}
 use native.Mathlib.Omega.{arith}
@@ -14,22 +14,13 @@ use Rattle.rules.specs.Answers.{accepted, refused, Check, check, answer}
 use Rattle.rules.specs.Field.{Kind, admitted, faces, field_length}
 use Rattle.rules.specs.Calls.{wind_sound}
 use Rattle.rules.specs.FieldFile.{file_length, file_of, tail_shape, tail_right, offsets_right, file_wind, file_field, field_sound, read_reply, read_field, read_wind, write_reply, write_file}
-use Rattle.rules.proofs.AnswerLaws.{Passed, answer-ind, after-accepted, after-refused}
+use Rattle.rules.proofs.AnswerLaws.{Passed, answer-ind, passed-accepts, after-accepted, after-refused}
 
 pub and_yes : (a b : Bool) → T a → T b → T (a && b)
 and_yes true b ta tb = tb
 and_yes false b ta tb = ta
 
--- a call whose every check is passed is accepted, and one that is accepted has passed every check
-passed-accepted : {A : Type 0} (cs : List Check) (x : A) → Passed cs → answer cs x ≡ accepted x
-unfolding answer
-passed-accepted [] x p = refl
-passed-accepted (c ∷ cs) x p = go c.passes p.0 ∙ passed-accepted cs x p.1
-  where
-    go : (b : Bool) → T b → cond b (answer cs x) (refused c.number) ≡ answer cs x
-    go true t = refl
-    go false t = absurd t
-
+-- a call that is accepted has passed every check
 accepted-passed : {A : Type 0} (cs : List Check) (x y : A) → answer cs x ≡ accepted y → Passed cs × (x ≡ y)
 accepted-passed cs x y = answer-ind (λ a. a ≡ accepted y → Passed cs × (x ≡ y)) cs x
     (λ n e. let z : ◌≡◌ {A = ℕ} 0 1 = cc in absurd (omega arith)) (λ p e. (p, cc))
@@ -64,7 +55,7 @@ module _ (κ : Kind) (g : Shape) where
     module _ (r : Readable) where
       pub read-accepted : read_reply κ file field wind ≡ accepted g
       unfolding read_reply
-      read-accepted = (λ i. answer (read-checks (r.shape i) file field wind) (r.shape i)) ∙ passed-accepted (read-checks g file field wind) g
+      read-accepted = (λ i. answer (read-checks (r.shape i) file field wind) (r.shape i)) ∙ passed-accepts (read-checks g file field wind) g
           (r.tail, (r.ranges, (r.offsets, (and_yes (leb (field_length κ g) (length field)) (leb (faces g) (length wind)) (le→leb _ _ r.field_room) (le→leb _ _ r.wind-room), (r.winds, (r.tracers, tt))))))
 
       pub field-read : read_field κ file field wind ≡ overwrite 0 (file_field κ g file) field
@@ -101,7 +92,7 @@ module _ (κ : Kind) (g : Shape) where
     module _ (w : Writable) where
       pub write-accepted : write_reply κ g field wind out ≡ accepted (file_length κ g)
       unfolding write_reply
-      write-accepted = passed-accepted write-checks (file_length κ g) (
+      write-accepted = passed-accepts write-checks (file_length κ g) (
         w.ranges,
         (
           and_yes (leb (field_length κ g) (length field)) _ (le→leb _ _ w.field_room)

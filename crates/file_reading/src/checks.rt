@@ -37,7 +37,7 @@ fn offsets_right(file: &[u8], grid: Grid) -> bool
     ))
 }
 
-// Whether every tracer's section is sound.
+// Whether every tracer's section is sound. One chain, as of a field's parts (file_writing), but over bytes.
 fn tracers_sound(sections: &[u8], grid: Grid) -> bool
     requires { length sections.now ≡ 4 * field_length quadratic grid.shape }
     ensures { result ≡ field_sound quadratic grid.shape (numbers_of sections.now (field_length quadratic grid.shape)) }

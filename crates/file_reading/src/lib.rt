@@ -29,7 +29,7 @@ fn sections(file: &[u8], grid: Grid) -> (&[u8], &[u8])
 }
 
 // Reads every tracer's section into its part of the field: each section as its own part of the file, which is document 01's form. The part
-// is lent by its place: of the parts that `chunks_exact_mut` has lent, a proof knows only how many they are.
+// is lent by its place: of what stands in parts that `chunks_exact_mut` has lent, a proof knows nothing afterwards.
 fn read_tracers(sections: &[u8], field: &mut [u32], grid: Grid)
     requires sections_len { length sections.now ≡ 4 * field_length quadratic grid.shape }
     requires shape_in_bounds { field_length quadratic grid.shape ≤ length field.old }

@@ -13,8 +13,8 @@ use file_numbers::Stored;
 
 pub mod search; // search.rt: the search of a tracer's section
 
-// Reads a number of the section for each entry of `out`. Here and below a number stands by its place: of entries that a zip with
-// `iter_mut`, or `chunks_exact_mut`, has lent, a proof knows only how many they are.
+// Reads a number of the section for each entry of `out`. Here and below a number stands by its place: of what stands in
+// entries that a zip with `iter_mut`, or `chunks_exact_mut`, has lent, a proof knows nothing afterwards.
 pub fn read_all<T: Stored>(section: &[u8], out: &mut [T])
     requires { T.SIZE * length out.old ≤ length section.now }
     ensures { out.new ≡ table (length out.old) (λ i. T.number section.now (T.SIZE * i)) }
@@ -34,7 +34,7 @@ pub fn write_all<T: Stored>(section: &mut [u8], numbers: &[T])
     }
 }
 
-// Whether each wind of the wind section is in its range.
+// Whether each wind of the wind section is in its range. One chain, as of a field's winds (field_search), but over bytes.
 pub fn winds_sound(section: &[u8]) -> bool
     ensures { result ≡ all (length section.now / 2) (λ f. wind_in_range (number16 section.now (2 * f))) }
 {

@@ -25,7 +25,7 @@ impl Numbers for Section<'_> {
     }
 }
 
-// Number k of a section. A function of the slice: behind a field nothing says that a place in it fits.
+// Number k of a section. A function of its own, whose clause says that the number's bytes are there; the trait's clause speaks of numbers.
 fn number(section: &[u8], k: usize) -> u32
     requires { 4 * k + 4 ≤ length section.now }
     ensures { result ≡ number32 section.now (4 * k) }

@@ -15,7 +15,7 @@ fn lent_enough(field: usize, wind: usize, file: usize, grid: Grid) -> bool
     grid.field_length() <= field && grid.faces() <= wind && file_layout::file_length(grid) <= file
 }
 
-// Whether every tracer is sound.
+// Whether every tracer is sound. One chain, as of a file's sections (file_reading), but over numbers.
 fn tracers_sound(field: &[u32], grid: Grid) -> bool
     requires { field_length quadratic grid.shape ≤ length field.now }
     ensures { result ≡ field_sound quadratic grid.shape field.now }

@@ -28,8 +28,8 @@ fn write_place(to: &mut [u8], place: usize)
     number.write(to);
 }
 
-// Writes the table of offsets. An offset's bytes are lent by number: of the parts that `chunks_exact_mut` has lent, a proof knows only how many
-// they are.
+// Writes the table of offsets. An offset's bytes are lent by number: of what stands in parts that `chunks_exact_mut` has lent, a proof knows
+// nothing afterwards.
 fn write_table(table: &mut [u8], grid: Grid)
     requires { 4 * (grid.shape.tracers + 1) ≤ length table.old }
     ensures { table.new ≡ overwrite 0 (blocks (grid.shape.tracers + 1) (λ i. bytes32 (section_start quadratic grid.shape i))) table.old }

@@ -27,8 +27,8 @@ pub struct Closing<'a> {
 }
 
 impl Closing<'_> {
-    // The closing: an element's ten numbers. They are lent as a slice: an array out of a field takes an unwrap that can never fail at each
-    // call, and of a function that lends one (tried) the check does not follow what is written back.
+    // The closing: an element's ten numbers. They are lent as a slice, which document 01 names as the form: "a part of the mutable field slice that
+    // starts at the element's place".
     pub fn close(self, part: &mut [u32])
         requires { length part.old ≡ 10 }
         ensures { part.new ≡ closed quadratic (at self.entry.psi.now) self.entry.target }

@@ -36,7 +36,7 @@ impl FieldPages<'_> {
     }
 
     // The pages of all tracers, in order. Counted, since each tracer's number is handed on, and with the place where the next page starts: of
-    // the parts that `chunks_exact_mut` has lent, a proof knows only how many they are.
+    // what stands in parts that `chunks_exact_mut` has lent, a proof knows nothing afterwards.
     fn pages(&self, out: &mut [u8]) -> usize
         requires { self.now.grid.shape.tracers * page_length self.now.grid.shape ≤ length out.old }
         ensures { Added (self.now.grid.shape.tracers * page_length self.now.grid.shape) 0 (blocks self.now.grid.shape.tracers (λ s. page_text quadratic self.now.grid.shape (part quadratic self.now.grid.shape s self.now.field.now))) out.old out.new result }

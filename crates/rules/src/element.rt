@@ -29,10 +29,10 @@ pub fn signed_weight(k: usize) -> i64
     line_weight(k % SIDE) * line_weight(k / SIDE)
 }
 
-// The weight of node k.
+// The weight of node k, for sums of values that are not negative: one table of weights for both types.
 pub fn node_weight(k: usize) -> u64
     requires { k < 9 }
     ensures { result ≡ quadratic.weight k }
 {
-    signed_weight(k) as u64 // by `as`: std has no `From` from i64 to u64, and a `try_from` would add an unwrap that can never fail
+    signed_weight(k).unsigned_abs()
 }

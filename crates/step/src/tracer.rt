@@ -28,7 +28,7 @@ fn target(masses: &[i64], report: &[i32], element: Element) -> u64
     let [west, east, south, north] = element.sides();
     let left = masses[element.index] - i64::from(report[east]) + i64::from(report[west]);
     let all = left - i64::from(report[north]) + i64::from(report[south]);
-    all as u64 // std has no `From` for it; a target is never below 0
+    all.unsigned_abs() // a target is never below 0
 }
 
 // Every element is closed with its tentative values and its target.
@@ -40,8 +40,8 @@ fn finish(part: &mut [u32], psi: &[i64], masses: &[i64], report: &[i32], grid: G
     ensures { part.new ≡ blocks (elements grid.shape) (new_element grid.shape psi.now masses.now report.now) }
 {
     let n = grid.elements();
-    // By number, which gives the element its neighbours and its place in both slices: of the parts that `chunks_exact_mut` has lent, a proof
-    // knows only how many they are.
+    // By number, which gives the element its neighbours and its place in both slices: of what stands in parts that `chunks_exact_mut` has lent,
+    // a proof knows nothing afterwards.
     for index in 0..n {
         let closing = Closing {
             psi: &psi[index * NODES..],

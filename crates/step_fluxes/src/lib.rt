@@ -19,7 +19,8 @@ use step_tendency::Line;
 use step_upwind::{EAST_LINE, NORTH_LINE, Winds};
 
 // The stages' values as a face sums them, at every node. All three have the same donors, so that their sum has its upwind values, too. They
-// are lent as slices: three `Stage`s would have three winds, and a clause for each that its grid is the others'.
+// are lent as slices: three `Stage`s would have three winds, and a clause for each that its grid is the others'. They are read by number: of what a zip
+// with `iter_mut` has lent, a proof knows nothing afterwards.
 pub fn combine(values: &mut [i64], first: &[i64], second: &[i64], third: &[i64])
     requires first_len { length first.now ≡ length values.old }
     requires second_len { length second.now ≡ length values.old }

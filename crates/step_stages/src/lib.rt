@@ -50,7 +50,8 @@ impl Pass {
     }
 }
 
-// An element's stored values.
+// An element's stored values, as `field_elements::element::values` has them, but in place. Other slices are read by number, here and below: of what a
+// zip with `iter_mut` has lent, a proof knows nothing afterwards.
 fn store(values: &mut [i64], numbers: &[u32; NUMBERS])
     requires { length values.old ≡ 9 }
     ensures { values.new ≡ table 9 (λ k. pos (get_or numbers.now k 0)) }
@@ -68,8 +69,8 @@ pub fn start(stage: &mut [i64], part: &[u32], grid: Grid)
 {
     let n = grid.elements();
     let (elements, _) = part.as_chunks::<NUMBERS>();
-    // What is written is lent by number, here and below: of the parts that `chunks_exact_mut` or `as_chunks_mut` has lent, a proof knows only
-    // how many they are.
+    // What is written is lent by number, here and below: of what stands in parts that `chunks_exact_mut` or `as_chunks_mut` has lent, a proof
+    // knows nothing afterwards.
     for (index, numbers) in elements[..n].iter().enumerate() {
         let start = index * NODES;
         let end = start + NODES;

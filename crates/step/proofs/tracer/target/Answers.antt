@@ -79,11 +79,8 @@ made c =
 bound : (c : After-from-4) → let a = c.args in positive (target a.element.grid.shape (mass_of a.masses.now) (at a.report.now) a.element.index) ≤ 500000000
 bound c = let a = c.args in target-within a.element.grid.shape a.masses.now a.report.now a.element.index a.element.inside c.requires
 
-pub overflow_cast-result : goal.overflow_cast-result
-overflow_cast-result c = let x = (goal.at.overflow_cast-result c).After-from-4 in rw (made x) (tt, record { fits = omega (arith, bound x) })
-
 pub returns-clause-value : goal.returns-clause-value
-returns-clause-value c = ap nat_abs (made (goal.at.returns-clause-value c).After-from-4)
+returns-clause-value c = c.unsigned_abs.ensures.value ∙ ap nat_abs (made (goal.at.returns-clause-value c).After-from-4)
 
 pub returns-clause-bound : goal.returns-clause-bound
-returns-clause-bound c = let x = (goal.at.returns-clause-bound c).After-from-4 in omega (arith, ap nat_abs (made x), bound x)
+returns-clause-bound c = let x = (goal.at.returns-clause-bound c).After-from-4 in omega (arith, c.unsigned_abs.ensures.value, ap nat_abs (made x), bound x)
