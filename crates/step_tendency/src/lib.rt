@@ -12,7 +12,7 @@ ghost use Rattle.step_tendency.specs.Line.{weighed_wind, along_line, with_ends, 
 use rules::element::{NODES, SIDE, line_weight};
 use std::array;
 
-// How many upwind values an element's four sides have.
+// How many upwind values an element's four sides have. They stand in one row, as the definition numbers them.
 pub const UPWIND_VALUES: usize = 4 * SIDE;
 
 // The last place of a line of nodes.

@@ -1,5 +1,5 @@
 // Text in a lent buffer: words, blanks and numbers in base ten, each added behind what stands there.
-// Each function that adds bytes is a leaf and asks for room.
+// Each function that adds bytes is a leaf and asks for room. No `Display`: std says which bytes `write!` puts only of a `String`, which needs a heap.
 #![tactic(auto)]
 
 ghost use Rattle.std.specs.Prelude.{◌≡◌, ◌≤◌, length};
