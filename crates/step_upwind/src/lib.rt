@@ -106,7 +106,7 @@ pub struct Stage<'s, 'w> {
     ghost small: { AllWithin stage_size phi.now },
 }
 
-impl Stage<'_, '_> {
+impl<'s> Stage<'s, '_> {
     // Upwind value m of the four sides, three for each. A line goes on by SIDE at the west and the east side, by 1 at the others; a table
     // of these steps would be laid on the stack at every turn.
     fn upwind_value(self, starts: &[usize; 4], m: usize) -> i64
@@ -128,12 +128,12 @@ impl Stage<'_, '_> {
     }
 
     // An element's nine values.
-    fn values_of(self, index: usize) -> [i64; NODES]
+    fn values_of(self, index: usize) -> &'s [i64; NODES]
         requires { index < elements self.winds.grid.shape }
-        ensures { result ≡ table 9 (as_stage self.entry.phi.now index) }
+        ensures { result.now ≡ table 9 (as_stage self.entry.phi.now index) }
     {
-        let start = index * NODES;
-        array::from_fn(|k| self.phi[start + k])
+        let (elements, _) = self.phi.as_chunks::<NODES>();
+        &elements[index]
     }
 
     // The tendencies of an element.
@@ -149,6 +149,6 @@ impl Stage<'_, '_> {
         let s = starts(&c, element);
         let u = self.upwind_values(&s);
         let v = self.values_of(index);
-        step_tendency::tendencies(&v, &c, &u)
+        step_tendency::tendencies(v, &c, &u)
     }
 }

@@ -1,7 +1,6 @@
-use Rattle.std.proofs.Common.{rules}
-use Rattle.whole.proofs.FromFn.{table-from_fn}
-use Rattle.step_upwind.specs.Upwind.{as_stage}
+use native.Mathlib.Omega.{arith}
+use Rattle.step_upwind.proofs.ListedLaws.{chunk-of}
 use Rattle.step_upwind.proofs.Stage.values_of.Goals as goal
 
 pub returns : goal.returns
-returns c = table-from_fn _ (as_stage c.args.self.phi.now c.args.index) (λ k y q l h. search rules) c.from_fn.ensures.items
+returns c = chunk-of c.args.self.phi.now c.args.index c.as_chunks.ensures.front (omega (arith, c.args.self.all_nodes, c.requires))
