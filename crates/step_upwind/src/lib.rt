@@ -1,5 +1,6 @@
 // Upwind values, and the tendencies of one element of the grid, of a stage under the winds that carry it.
-// Every function here is a leaf: the element is on the grid, as the face is.
+// Every function here is a leaf: the element is on the grid, as the face is. An element stands by its number: an `Element` holds a grid of its own, of
+// which a clause would say that it is the winds'.
 #![tactic(auto)]
 
 ghost use Rattle.std.specs.Prelude.{◌≡◌, ◌+◌, ◌≤◌, ◌<◌, length};
