@@ -1,2 +1,2 @@
--- Laws of a row of face lines.
+-- Laws of the rows of a half of the report.
 pub mod RowLaws

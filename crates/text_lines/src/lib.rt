@@ -4,14 +4,14 @@
 // `grid_line`, `refused_line` and `tracer_lines` are what the program calls.
 #![tactic(auto)]
 
-ghost use Rattle.std.specs.Prelude.{◌≡◌, ◌+◌, ◌*◌, ◌≤◌, ◌<◌, length};
+ghost use Rattle.std.specs.Prelude.{◌+◌, ◌*◌, ◌≤◌, length};
+ghost use Rattle.whole.specs.Table.{blocks, at};
 ghost use Rattle.rules.specs.Field.{faces};
-ghost use Rattle.rules.specs.Grid.{face_index};
-ghost use Rattle.rules.specs.Program.{way_word, grid_line, face_line, total_line, refused_line, face_row, face_lines, tracer_lines};
+ghost use Rattle.rules.specs.Program.{way_word, grid_line, face_line, total_line, refused_line, face_lines, tracer_lines};
 ghost use Rattle.text.specs.Adds.{Adds, HasRoom};
 
 use field_layout::Grid;
-use rules::{Face, Shape, Way};
+use rules::{Shape, Way};
 use text::Text;
 
 // The line of the grid: nx, ny and how many tracers.
@@ -65,6 +65,16 @@ fn way_word(text: &mut Text, way: Way)
     }
 }
 
+// The faces of row j that look one way, by their limited fluxes.
+fn face_row(text: &mut Text, tracer: usize, way: Way, j: usize, row: &[i32])
+    requires { HasRoom (length row.now * 96) text.old }
+    ensures { Adds (length row.now * 96) (blocks (length row.now) (λ i. face_line tracer way i j (at row.now i))) text.old text.new }
+{
+    for (i, &flux) in row.iter().enumerate() {
+        face_line(text, tracer, way, i, j, flux);
+    }
+}
+
 // The line of a tracer's total.
 fn total_line(text: &mut Text, tracer: usize, total: u64)
     requires { HasRoom 48 text.old }
@@ -87,41 +97,19 @@ pub(crate) struct TracerReport<'a> {
 }
 
 impl TracerReport<'_> {
-    // Where the first face of row j that looks one way stands in the report.
-    fn first_face(&self, way: Way, j: usize) -> usize
-        requires { j < self.now.grid.shape.ny }
-        ensures { result ≡ face_index self.now.grid.shape way 0 j }
-    {
-        self.grid.face_at(Face {
-            way,
-            i: 0,
-            j,
-            wind: 0, // a place does not depend on it
-        })
-    }
-
-    // The faces of row j that look one way.
-    fn face_row(&self, text: &mut Text, way: Way, j: usize)
-        requires j_lt_ny { j < self.now.grid.shape.ny }
-        requires room { HasRoom (self.now.grid.shape.nx * 96) text.old }
-        ensures { Adds (self.now.grid.shape.nx * 96) (face_row self.now.grid.shape self.now.tracer way self.now.report.now j) text.old text.new }
-    {
-        let first = self.first_face(way, j);
-        for (i, &flux) in self.report[first..first + self.grid.shape.nx]
-            .iter()
-            .enumerate()
-        {
-            face_line(text, self.tracer, way, i, j, flux);
-        }
-    }
-
-    // All faces that look one way. Counted, since a row's number is printed.
+    // All faces that look one way, a half of the report, row by row.
     fn face_lines(&self, text: &mut Text, way: Way)
         requires { HasRoom (self.now.grid.shape.ny * (self.now.grid.shape.nx * 96)) text.old }
         ensures { Adds (self.now.grid.shape.ny * (self.now.grid.shape.nx * 96)) (face_lines self.now.grid.shape self.now.tracer way self.now.report.now) text.old text.new }
     {
-        for j in 0..self.grid.shape.ny {
-            self.face_row(text, way, j);
+        let n = self.grid.elements();
+        let start = match way {
+            Way::East => 0,
+            Way::North => n,
+        };
+        let half = &self.report[start..start + n];
+        for (j, row) in half.chunks_exact(self.grid.shape.nx).enumerate() {
+            face_row(text, self.tracer, way, j, row);
         }
     }
 }
