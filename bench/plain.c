@@ -151,7 +151,8 @@ static void limit(const int64_t *work, int32_t *report, size_t nx, size_t n)
     }
 }
 
-static void close_element(uint32_t *part, const int64_t *psi, uint64_t t)
+/* Gives the clipped mass. */
+static uint64_t close_element(uint32_t *part, const int64_t *psi, uint64_t t)
 {
     int64_t s = 0;
     uint64_t p = 0, held = 0;
@@ -167,15 +168,18 @@ static void close_element(uint32_t *part, const int64_t *psi, uint64_t t)
         held += (uint64_t)NODE[k] * y;
     }
     part[9] = (uint32_t)(t - held);
+    return (uint64_t)((int64_t)p - (s + 36 * shift));
 }
 
-static void finish(uint32_t *part, const int64_t *work, const int32_t *report, size_t nx, size_t n)
+static uint64_t finish(uint32_t *part, const int64_t *work, const int32_t *report, size_t nx, size_t n)
 {
+    uint64_t clipped = 0;
     for (size_t e = 0; e < n; e++) {
         struct around a = around(nx, n, e);
         int64_t t = work[47 * n + e] - report[e] + report[a.west] - report[n + e] + report[n + a.south];
-        close_element(part + 10 * e, work + 27 * n + 9 * e, (uint64_t)t);
+        clipped += close_element(part + 10 * e, work + 27 * n + 9 * e, (uint64_t)t);
     }
+    return clipped;
 }
 
 /* 6 where a remainder or the total is out of range. */
@@ -197,29 +201,28 @@ static int sound(const uint32_t *part, size_t n)
     return 1;
 }
 
-uint8_t plain_step(uint32_t *field, size_t field_count, const int16_t *wind, size_t wind_count,
+int64_t plain_step(uint32_t *field, size_t field_count, const int16_t *wind, size_t wind_count,
                    int32_t *report, size_t report_count, int64_t *work, size_t work_count,
                    size_t nx, size_t ny, size_t smokes, size_t smoke)
 {
     if (nx < 1 || nx > 64 || ny < 1 || ny > 64 || smokes < 1 || smokes > 8)
-        return 2;
+        return -2;
     size_t n = nx * ny;
     if (field_count < smokes * n * 10 || wind_count < 2 * n || report_count < 2 * n || work_count < 64 * n)
-        return 4;
+        return -4;
     for (size_t f = 0; f < 2 * n; f++)
         if (wind[f] < -1024 || wind[f] > 1024)
-            return 5;
+            return -5;
     if (smoke >= smokes)
-        return 7;
+        return -7;
     uint32_t *part = field + smoke * n * 10;
     if (!sound(part, n))
-        return 6;
+        return -6;
     start(work, part, n);
     for (size_t stage = 0; stage < 3; stage++)
         advance(work, wind, nx, n, stage);
     fluxes(work, wind, nx, n);
     amounts(work, part, nx, n);
     limit(work, report, nx, n);
-    finish(part, work, report, nx, n);
-    return 0;
+    return (int64_t)finish(part, work, report, nx, n);
 }

@@ -19,8 +19,8 @@
  *            and a newline.
  *   file     the bytes of a field file; 4 * nx * ny + 40 * nx * ny * smokes + 4 * (smokes + 1) + 12 of them.
  *
- * Answers. A uint8_t is 0 where the call was accepted, else the refusal's number. An int64_t is the number asked for, or the
- * refusal's number negated. A call that is refused has written nothing.
+ * Answers. A uint8_t is 0 where the call was accepted, else the refusal's number. An int64_t is the number that the call
+ * answers, or the refusal's number negated. A call that is refused has written nothing.
  *    1 no field file: fewer than 12 bytes, wrong mark, or fourth byte of the tail not 0
  *    2 shape outside its ranges
  *    3 the file's offsets or length differ from what its shape gives
@@ -68,18 +68,20 @@ uint8_t plume_import(int16_t *wind, size_t wind_count, const uint8_t *records, s
 uint8_t plume_load(uint32_t *field, size_t field_count, const uint32_t *numbers, size_t numbers_count,
                    size_t nx, size_t ny, size_t smokes, size_t smoke);
 
-/* Adds q to what element (i, j) of a smoke holds: its values rise evenly, its remainder takes the rest. Refusals 2 4 6 7 8 9. */
-uint8_t plume_emission(uint32_t *field, size_t field_count, size_t nx, size_t ny, size_t smokes,
+/* Adds q to what element (i, j) of a smoke holds: its values rise evenly, its remainder takes the rest. Answers the clipped mass, as
+ * plume_step does; here it is always 0. Refusals 2 4 6 7 8 9, negated. */
+int64_t plume_emission(uint32_t *field, size_t field_count, size_t nx, size_t ny, size_t smokes,
                        size_t smoke, size_t i, size_t j, uint64_t q);
 
-/* Takes q off what element (i, j) of a smoke holds: off its remainder, or where that is too little by scaling its values down.
- * Refusals 2 4 6 7 8 10. */
-uint8_t plume_withdrawal(uint32_t *field, size_t field_count, size_t nx, size_t ny, size_t smokes,
+/* Takes q off what element (i, j) of a smoke holds: off its remainder, or where that is too little by scaling its values down. Answers
+ * the clipped mass, which is always 0 here. Refusals 2 4 6 7 8 10, negated. */
+int64_t plume_withdrawal(uint32_t *field, size_t field_count, size_t nx, size_t ny, size_t smokes,
                          size_t smoke, size_t i, size_t j, uint64_t q);
 
-/* One step of one smoke with the wind: writes that smoke's elements and the whole report. Afterwards work has any content.
- * Refusals 2 4 5 6 7. */
-uint8_t plume_step(uint32_t *field, size_t field_count, const int16_t *wind, size_t wind_count,
+/* One step of one smoke with the wind: writes that smoke's elements and the whole report. Afterwards work has any content. Answers the
+ * clipped mass, 0 or more and below 2^53: how much negative smoke the truncation removed, over all elements. It may be above the total.
+ * Refusals 2 4 5 6 7, negated. */
+int64_t plume_step(uint32_t *field, size_t field_count, const int16_t *wind, size_t wind_count,
                    int32_t *report, size_t report_count, int64_t *work, size_t work_count,
                    size_t nx, size_t ny, size_t smokes, size_t smoke);
 

@@ -55,11 +55,12 @@ static int64_t mass(size_t i, size_t j)
 /* Steps smoke 0 and prints what its row j = 2 holds. The smoke must stay all there. */
 static void step(int number)
 {
-    expect("step", plume_step(field, FIELD, wind, FACES, report, FACES, work, WORK, NX, NY, SMOKES, 0), 0);
+    int64_t clipped = plume_step(field, FIELD, wind, FACES, report, FACES, work, WORK, NX, NY, SMOKES, 0);
+    expect("step", clipped < 0 ? clipped : 0, 0);
     printf("step %d:", number);
     for (size_t i = 0; i < NX; i++)
         printf(" %6" PRId64, mass(i, 2));
-    printf("   over the east face of (1, 2): %" PRId32 "\n", report[2 * NX + 1]);
+    printf("   over the east face of (1, 2): %" PRId32 ", clipped: %" PRId64 "\n", report[2 * NX + 1], clipped);
     expect("total", plume_total(field, FIELD, NX, NY, SMOKES, 0), EMITTED);
 }
 
@@ -134,7 +135,7 @@ int main(void)
     mapped();
     written_and_read();
     imported();
-    expect("withdrawal of too much", plume_withdrawal(field, FIELD, NX, NY, SMOKES, 0, 1, 2, EMITTED + 1), 10);
+    expect("withdrawal of too much", plume_withdrawal(field, FIELD, NX, NY, SMOKES, 0, 1, 2, EMITTED + 1), -10);
     expect("withdrawal", plume_withdrawal(field, FIELD, NX, NY, SMOKES, 0, 1, 2, (uint64_t)mass(1, 2)), 0);
     expect("mass of an emptied element", mass(1, 2), 0);
     printf("totals: %" PRId64 " and %" PRId64 "\n", plume_total(field, FIELD, NX, NY, SMOKES, 0),

@@ -5,7 +5,7 @@ use crate::checks::{
     element_exists, element_mass, long_enough, smoke_exists, smoke_part, smoke_sound, smoke_total,
     weighted_numbers, wind_in_range, OVER_LIMIT, TOO_MUCH,
 };
-use crate::closing::{close, close_unlevelled, Nodes};
+use crate::closing::{close, close_unlevelled, Closed, Nodes};
 use crate::shape::{Shape, LIMIT, NODES, PER_ELEMENT};
 
 /// "Which way a face looks is part of the call's record."
@@ -109,7 +109,15 @@ fn found(
     Ok((shape, shape.place(smoke, i, j)))
 }
 
-/// Checks 2 4 6 7 8 9. "closing with ψ = φ, T = M + q"
+/// Lays the closed numbers in their element. Document 02, 2026-04: "Emission
+/// and withdrawal pass on their closing's figure, which is always 0 there".
+fn passed_on(element: &mut [u32], closed: &Closed) -> u64 {
+    element.copy_from_slice(&closed.numbers);
+    closed.clipped
+}
+
+/// Checks 2 4 6 7 8 9. "closing with ψ = φ, T = M + q". Answers the clipped
+/// mass.
 #[allow(clippy::too_many_arguments)]
 pub fn emission(
     field: &mut [u32],
@@ -120,7 +128,7 @@ pub fn emission(
     i: usize,
     j: usize,
     q: u64,
-) -> Result<(), u8> {
+) -> Result<u64, u8> {
     let (shape, place) = found(field, (nx, ny, k), smoke, (i, j))?;
     let total = smoke_total(field, shape, smoke);
     if u128::from(total) + u128::from(q) > u128::from(LIMIT) {
@@ -128,11 +136,12 @@ pub fn emission(
     }
     let element = &mut field[place..place + PER_ELEMENT];
     let target = i128::from(element_mass(element)) + i128::from(q);
-    element.copy_from_slice(&close(&signed_values(element), target));
-    Ok(())
+    let closed = close(&signed_values(element), target);
+    Ok(passed_on(element, &closed))
 }
 
-/// Checks 2 4 6 7 8 10. "T = M − q, closing without levelling"
+/// Checks 2 4 6 7 8 10. "T = M − q, closing without levelling". Answers the
+/// clipped mass.
 #[allow(clippy::too_many_arguments)]
 pub fn withdrawal(
     field: &mut [u32],
@@ -143,7 +152,7 @@ pub fn withdrawal(
     i: usize,
     j: usize,
     q: u64,
-) -> Result<(), u8> {
+) -> Result<u64, u8> {
     let (_, place) = found(field, (nx, ny, k), smoke, (i, j))?;
     let element = &mut field[place..place + PER_ELEMENT];
     let held = element_mass(element);
@@ -151,8 +160,8 @@ pub fn withdrawal(
         return Err(TOO_MUCH);
     }
     let target = i128::from(held - q);
-    element.copy_from_slice(&close_unlevelled(&signed_values(element), target));
-    Ok(())
+    let closed = close_unlevelled(&signed_values(element), target);
+    Ok(passed_on(element, &closed))
 }
 
 /// Checks 2 4 6 7 8. An element's M.

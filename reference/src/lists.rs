@@ -25,8 +25,11 @@ pub enum Call {
 #[derive(Clone, Debug, PartialEq, Eq)]
 pub enum Answer {
     Accepted,
-    /// "An accepted step's answer there includes the report".
-    Stepped(Vec<i32>),
+    /// An accepted emission's or withdrawal's clipped mass (request 2026-04).
+    Closed(u64),
+    /// "An accepted step's answer there includes the report"; beside it stands
+    /// the step's clipped mass (request 2026-04).
+    Stepped(Vec<i32>, u64),
     Number(u64),
     Refused(u8),
 }
@@ -73,12 +76,16 @@ impl State {
             Call::Wind(way, i, j, c) => wind(&mut self.wind, nx, ny, k, *way, *i, *j, *c)?,
             Call::Import(records) => import(&mut self.wind, records, nx, ny, k)?,
             Call::Load(s, numbers) => load(field, numbers, nx, ny, k, *s)?,
-            Call::Emission(s, i, j, q) => emission(field, nx, ny, k, *s, *i, *j, *q)?,
-            Call::Withdrawal(s, i, j, q) => withdrawal(field, nx, ny, k, *s, *i, *j, *q)?,
+            Call::Emission(s, i, j, q) => {
+                return emission(field, nx, ny, k, *s, *i, *j, *q).map(Answer::Closed);
+            }
+            Call::Withdrawal(s, i, j, q) => {
+                return withdrawal(field, nx, ny, k, *s, *i, *j, *q).map(Answer::Closed);
+            }
             Call::Step(s) => {
                 let (report, work) = (&mut self.report, &mut self.work);
-                step(field, &self.wind, report, work, nx, ny, k, *s)?;
-                return Ok(Answer::Stepped(self.report.clone()));
+                let clipped = step(field, &self.wind, report, work, nx, ny, k, *s)?;
+                return Ok(Answer::Stepped(self.report.clone(), clipped));
             }
             Call::Mass(s, i, j) => return Ok(Answer::Number(mass(field, nx, ny, k, *s, *i, *j)?)),
             Call::Total(s) => return Ok(Answer::Number(total(field, nx, ny, k, *s)?)),
@@ -100,7 +107,10 @@ impl fmt::Display for Answer {
     fn fmt(&self, f: &mut fmt::Formatter) -> fmt::Result {
         match self {
             Answer::Accepted => write!(f, "accepted"),
-            Answer::Stepped(report) => write!(f, "{}", joined("accepted", report)),
+            Answer::Closed(clipped) => write!(f, "accepted clipped {clipped}"),
+            Answer::Stepped(report, clipped) => {
+                write!(f, "{} clipped {clipped}", joined("accepted", report))
+            }
             Answer::Number(number) => write!(f, "{number}"),
             Answer::Refused(number) => write!(f, "refused {number}"),
         }

@@ -58,10 +58,12 @@ fn stepped(file: &[u8]) -> Result<String, u8> {
     let Shape { nx, ny, k } = shape;
     let mut text = format!("grid {nx} {ny} {k}\n");
     for smoke in 0..k {
-        step(&mut field, &wind, &mut report, &mut work, nx, ny, k, smoke)?;
+        let clipped = step(&mut field, &wind, &mut report, &mut work, nx, ny, k, smoke)?;
         face_lines(&mut text, shape, smoke, &report);
         let sum = total(&field, nx, ny, k, smoke)?;
-        writeln!(text, "total {smoke} {sum}").expect("a String takes all");
+        // Document 02, 2026-04: "The program's total line gets it as a last
+        // field".
+        writeln!(text, "total {smoke} {sum} {clipped}").expect("a String takes all");
     }
     Ok(text)
 }

@@ -9,6 +9,7 @@ use crate::tendency::{tendencies, Winds};
 
 /// Checks 2 4 5 6 7. Of `work` only the length matters: "An accepted step
 /// leaves work free: any content", and leaving it as it was is one content.
+/// Answers the clipped mass of all its elements (request 2026-04).
 #[allow(clippy::too_many_arguments)]
 pub fn step(
     field: &mut [u32],
@@ -19,7 +20,7 @@ pub fn step(
     ny: usize,
     k: usize,
     smoke: usize,
-) -> Result<(), u8> {
+) -> Result<u64, u8> {
     let shape = Shape::checked(nx, ny, k)?;
     long_enough(field, shape.field_len())?;
     long_enough(wind, shape.wind_len())?;
@@ -32,15 +33,15 @@ pub fn step(
     let winds = Winds { shape, faces: wind };
     let start = shape.place(smoke, 0, 0);
     let part = &mut field[start..start + shape.smoke_len()];
-    let moved = advance(&winds, part);
+    let (moved, clipped) = advance(&winds, part);
     for (face, &g) in moved.iter().enumerate() {
         report[face] = i32::try_from(g).expect("no face moves more than its donor's M");
     }
-    Ok(())
+    Ok(clipped)
 }
 
-/// Steps one smoke's elements and answers every G*.
-fn advance(winds: &Winds, part: &mut [u32]) -> Vec<i128> {
+/// Steps one smoke's elements and answers every G* and the clipped mass.
+fn advance(winds: &Winds, part: &mut [u32]) -> (Vec<i128>, u64) {
     let elements = || part.chunks_exact(PER_ELEMENT);
     let phi0: Vec<Nodes> = elements().map(signed_values).collect();
     // "dropping ρ from M" is among the easy mistakes: M includes it.
@@ -50,10 +51,15 @@ fn advance(winds: &Winds, part: &mut [u32]) -> Vec<i128> {
     let amounts = face_amounts(winds, [&stages[0], &stages[1], &stages[2]]);
     let moved = corrected(winds.shape, &amounts, &masses);
     let targets = targets(winds.shape, &masses, &moved);
+    // Document 02, 2026-04: "A step gives the sum of this over its elements".
+    // No |ψ| reaches 10^10, so the sum over 4096 elements stays below 2^52.
+    let mut clipped = 0;
     for (at, element) in part.chunks_exact_mut(PER_ELEMENT).enumerate() {
-        element.copy_from_slice(&close(&psi[at], targets[at]));
+        let closed = close(&psi[at], targets[at]);
+        element.copy_from_slice(&closed.numbers);
+        clipped += closed.clipped;
     }
-    moved
+    (moved, clipped)
 }
 
 /// φ0, φ1, φ2 and the tentative ψ. "the stages run uncut"

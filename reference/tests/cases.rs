@@ -1,7 +1,9 @@
 //! Document 01's "Cases beside the edges" and case F. The face cases are those
-//! of request 2026-02.
+//! of request 2026-02. The closings' clipped masses, each worked out as P minus
+//! the weighted sum of the levelled numbers, and case F's last field are of
+//! request 2026-04.
 
-use reference::closing::{close, level, weighted};
+use reference::closing::{close, level, weighted, Closed};
 use reference::flux::{corrected, cut, donor, face_amount};
 use reference::program::output;
 use reference::{emission, load, mass, step, total, wind, withdrawal, write_file, Shape, Way};
@@ -11,6 +13,11 @@ fn nodes(corner: i128, edge: i128, centre: i128) -> [i128; 9] {
     [
         corner, edge, corner, edge, centre, edge, corner, edge, corner,
     ]
+}
+
+/// A closing's answer.
+fn closed(numbers: [u32; 10], clipped: u64) -> Closed {
+    Closed { numbers, clipped }
 }
 
 #[test]
@@ -74,7 +81,9 @@ fn closing_scales_down() {
     psi[0] = -60;
     assert_eq!(level(&psi, 100), psi);
     assert_eq!(weighted(&psi.map(|v| v.max(0))), 160);
-    assert_eq!(close(&psi, 100), [0, 0, 0, 0, 6, 0, 0, 0, 0, 4]);
+    // 160 − 100
+    let scaled = closed([0, 0, 0, 0, 6, 0, 0, 0, 0, 4], 60);
+    assert_eq!(close(&psi, 100), scaled);
 }
 
 #[test]
@@ -82,15 +91,20 @@ fn closing_levels_down_and_keeps() {
     let psi = nodes(-2, 0, 3);
     assert_eq!(level(&psi, 36), nodes(-3, -1, 2));
     assert_eq!(weighted(&level(&psi, 36).map(|v| v.max(0))), 32);
-    assert_eq!(close(&psi, 36), [0, 0, 0, 0, 2, 0, 0, 0, 0, 4]);
+    // 32 − (2 · 16 − 4 · 3 − 4 · 4 · 1) = 32 − 4
+    let kept = closed([0, 0, 0, 0, 2, 0, 0, 0, 0, 4], 28);
+    assert_eq!(close(&psi, 36), kept);
 }
 
 #[test]
 fn closing_level_numbers() {
     let zero = [0; 9];
-    assert_eq!(close(&zero, 35), [0, 0, 0, 0, 0, 0, 0, 0, 0, 35]);
-    assert_eq!(close(&zero, 36), [1, 1, 1, 1, 1, 1, 1, 1, 1, 0]);
-    assert_eq!(close(&[-5; 9], 0), [0; 10]);
+    let below = closed([0, 0, 0, 0, 0, 0, 0, 0, 0, 35], 0);
+    assert_eq!(close(&zero, 35), below);
+    let at = closed([1, 1, 1, 1, 1, 1, 1, 1, 1, 0], 0);
+    assert_eq!(close(&zero, 36), at);
+    // Levelled to 0 before the truncation, which finds nothing to add.
+    assert_eq!(close(&[-5; 9], 0), closed([0; 10], 0));
 }
 
 #[test]
@@ -110,7 +124,7 @@ fn withdrawal_at_its_edge() {
     assert_eq!(mass(&field, 1, 1, 1, 0, 0, 0), Ok(257));
     assert_eq!(withdrawal(&mut field, 1, 1, 1, 0, 0, 0, 258), Err(10));
     assert_eq!(field, full);
-    assert_eq!(withdrawal(&mut field, 1, 1, 1, 0, 0, 0, 257), Ok(()));
+    assert_eq!(withdrawal(&mut field, 1, 1, 1, 0, 0, 0, 257), Ok(0));
     assert_eq!(field, [0; 10]);
 }
 
@@ -118,12 +132,17 @@ fn withdrawal_at_its_edge() {
 fn withdrawal_is_not_levelled() {
     // T = 200 below P = 252: each 7 becomes floor(7 · 200 / 252) = 5.
     let mut field = [7, 7, 7, 7, 7, 7, 7, 7, 7, 5];
-    assert_eq!(withdrawal(&mut field, 1, 1, 1, 0, 0, 0, 57), Ok(()));
+    assert_eq!(withdrawal(&mut field, 1, 1, 1, 0, 0, 0, 57), Ok(0));
     assert_eq!(field, [5, 5, 5, 5, 5, 5, 5, 5, 5, 20]);
-    // A levelled closing would have lowered the edges below 0 here.
+    // T = 162 keeps the values: the remainder gives it alone.
     let mut spike = [0, 0, 0, 0, 10, 0, 0, 0, 0, 3];
-    assert_eq!(withdrawal(&mut spike, 1, 1, 1, 0, 0, 0, 1), Ok(()));
+    assert_eq!(withdrawal(&mut spike, 1, 1, 1, 0, 0, 0, 1), Ok(0));
     assert_eq!(spike, [0, 0, 0, 0, 10, 0, 0, 0, 0, 2]);
+    // T = 1510 below P = 1610. Levelled by floor(−100 / 36) = −3 the corner
+    // would be 7 and end as 6, and the seven zeros would give a figure of 57.
+    let mut two = [10, 0, 0, 0, 100, 0, 0, 0, 0, 3];
+    assert_eq!(withdrawal(&mut two, 1, 1, 1, 0, 0, 0, 103), Ok(0));
+    assert_eq!(two, [9, 0, 0, 0, 93, 0, 0, 0, 0, 13]);
 }
 
 #[test]
@@ -135,14 +154,14 @@ fn total_at_its_edge() {
     assert_eq!(total(&field, 1, 1, 1, 0), Ok(100_000_000));
     let full = field;
     assert_eq!(emission(&mut field, 1, 1, 1, 0, 0, 0, 1), Err(9));
-    assert_eq!(emission(&mut field, 1, 1, 1, 0, 0, 0, 0), Ok(()));
+    assert_eq!(emission(&mut field, 1, 1, 1, 0, 0, 0, 0), Ok(0));
     numbers[0] += 1;
     assert_eq!(load(&mut field, &numbers, 1, 1, 1, 0), Err(9));
     assert_eq!(field, full);
     // Stored beside the edge: 99,999,999 takes one more, 100,000,001 is 6.
     field[0] -= 1;
     assert_eq!(emission(&mut field, 1, 1, 1, 0, 0, 0, 2), Err(9));
-    assert_eq!(emission(&mut field, 1, 1, 1, 0, 0, 0, 1), Ok(()));
+    assert_eq!(emission(&mut field, 1, 1, 1, 0, 0, 0, 1), Ok(0));
     assert_eq!(total(&field, 1, 1, 1, 0), Ok(100_000_000));
     field[9] += 1;
     assert_eq!(total(&field, 1, 1, 1, 0), Err(6));
@@ -165,7 +184,7 @@ fn even_smoke_in_even_wind_stays() {
         let before = field.clone();
         let (mut report, mut work) = ([9; 24], [9; 64 * 12]);
         let answer = step(&mut field, &faces, &mut report, &mut work, nx, ny, 1, 0);
-        assert_eq!(answer, Ok(()));
+        assert_eq!(answer, Ok(0));
         assert_eq!(field, before);
         assert_eq!(report[..12], [east_amount; 12]);
         assert_eq!(report[12..], [north_amount; 12]);
@@ -211,9 +230,10 @@ fn case_f_is_written_so() {
     assert_eq!(out[64..], [255, 255]);
 }
 
+/// Document 02, 2026-04: "case F ends "total 0 257 0"".
 #[test]
 fn case_f_output_whole() {
     assert_eq!(case_f().len(), 64);
-    let whole = b"grid 1 1 1\nface 0 east 0 0 63\nface 0 north 0 0 0\ntotal 0 257\n";
+    let whole = b"grid 1 1 1\nface 0 east 0 0 63\nface 0 north 0 0 0\ntotal 0 257 0\n";
     assert_eq!(output(&case_f()).as_bytes(), whole);
 }

@@ -168,7 +168,7 @@ fn halves_reach_the_report() {
         let faces = [512, 512, 512, 512, -512, -512, -512, -512];
         let (mut report, mut work) = ([99; 8], [0; 64 * 4]);
         let answer = step(&mut field, &faces, &mut report, &mut work, 2, 2, 1, 0);
-        assert_eq!(answer, Ok(()));
+        assert_eq!(answer, Ok(0));
         assert_eq!(field, before);
         assert_eq!(report, [[amount; 4], [-amount; 4]].concat()[..]);
     }

@@ -110,4 +110,7 @@ fn the_program_prints_smoke_by_smoke() {
     assert!(lines[13].starts_with("total 0 "));
     assert!(lines[14].starts_with("face 1 east 0 0 "));
     assert!(lines[26].starts_with("total 1 ") && text.ends_with('\n'));
+    // "total", smoke, total, and the clipped mass (request 2026-04).
+    assert_eq!(lines[13].split(' ').count(), 4);
+    assert_eq!(lines[26].split(' ').count(), 4);
 }

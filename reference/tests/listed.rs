@@ -8,8 +8,9 @@ use reference::lists::{Call, State};
 use reference::Shape;
 use shared::{smoke_of, Ledger};
 
-/// Each call with its answer; then the wind, the two smokes' parts of the
-/// field, and what the ledger holds of each after the last call.
+/// Each call with its answer, an emission's, a withdrawal's and a step's with
+/// the clipped mass (request 2026-04); then the wind, the two smokes' parts of
+/// the field, and what the ledger holds of each after the last call.
 struct Listing {
     shape: Shape,
     calls: &'static [(&'static str, &'static str)],
@@ -21,27 +22,28 @@ struct Listing {
 /// In the first step of smoke 0 the west element holds 79 and would give 62
 /// to the east (62.5, a half), 8 to the west against the wind there, and 10
 /// over its own north face: all three are cut. In the second it holds 11, its
-/// remainder 1 among them, and would give 7, 5 and 1.
+/// remainder 1 among them, and would give 7, 5 and 1. Smoke 0's clipped
+/// masses by element are 48 and 4, then 4 and 0; smoke 1's are 0 and 6.
 const ON_ONE_ROW: Listing = Listing {
     shape: Shape { nx: 2, ny: 1, k: 2 },
     calls: &[
         ("load 0 0 0 37 0 0 0 0 4 26 0 0 0 15 0 0 0 4 0", "accepted"),
-        ("emission 0 1 0 16", "accepted"),
+        ("emission 0 1 0 16", "accepted clipped 0"),
         ("emission 1 2 0 100000001", "refused 8"),
-        ("emission 1 0 0 172", "accepted"),
+        ("emission 1 0 0 172", "accepted clipped 0"),
         ("wind east 0 0 1024", "accepted"),
         ("wind east 1 0 700", "accepted"),
         ("wind east 2 0 -1025", "refused 5"),
         ("wind north 0 0 300", "accepted"),
-        ("step 0", "accepted 61 -7 9 0"),
-        ("step 1", "accepted 28 -4 8 0"),
-        ("withdrawal 0 1 0 107", "accepted"),
+        ("step 0", "accepted 61 -7 9 0 clipped 52"),
+        ("step 1", "accepted 28 -4 8 0 clipped 6"),
+        ("withdrawal 0 1 0 107", "accepted clipped 0"),
         ("withdrawal 0 1 0 54", "refused 10"),
         (
             "load 1 100000000 0 0 0 0 0 0 0 0 0 0 0 0 0 0 0 0 1",
             "refused 9",
         ),
-        ("step 0", "accepted 5 -4 0 0"),
+        ("step 0", "accepted 5 -4 0 0 clipped 4"),
     ],
     wind: &[1024, 700, 300, 0],
     parts: [
@@ -65,8 +67,8 @@ const ON_ONE_ROW: Listing = Listing {
 const BY_IMPORT: Listing = Listing {
     calls: &[
         ("load 0 0 0 37 0 0 0 0 4 26 0 0 0 15 0 0 0 4 0", "accepted"),
-        ("emission 0 1 0 16", "accepted"),
-        ("emission 1 0 0 172", "accepted"),
+        ("emission 0 1 0 16", "accepted clipped 0"),
+        ("emission 1 0 0 172", "accepted clipped 0"),
         ("wind north 1 0 55", "accepted"),
         (
             "import 1 0 0 0 0 0 2 208 63 0 0 0 0 0 200 178 63 2 0 0 0 0 0 220 197 63",
@@ -76,22 +78,24 @@ const BY_IMPORT: Listing = Listing {
             "import 1 0 0 0 0 0 4 208 63 0 0 0 0 0 0 0 0 2 0 0 0 0 0 0 248 127",
             "refused 5",
         ),
-        ("step 0", "accepted 61 -7 9 0"),
+        ("step 0", "accepted 61 -7 9 0 clipped 52"),
         ("import 2 0 0 0 0 0 0 240 255 3", "refused 12"),
-        ("step 1", "accepted 28 -4 8 0"),
-        ("withdrawal 0 1 0 107", "accepted"),
+        ("step 1", "accepted 28 -4 8 0 clipped 6"),
+        ("withdrawal 0 1 0 107", "accepted clipped 0"),
         (
             "import 1 0 0 0 0 0 0 208 63 0 0 0 0 0 0 208 63 2 0 0 0 0 0 0 208",
             "refused 11",
         ),
         ("import 0 0 0", "refused 11"),
-        ("step 0", "accepted 5 -4 0 0"),
+        ("step 0", "accepted 5 -4 0 0 clipped 4"),
     ],
     ..ON_ONE_ROW
 };
 
 /// Winds go all four ways. In the first step of smoke 0 the amounts that leave
-/// element (1, 0) are cut, and two faces run against their winds.
+/// element (1, 0) are cut, and two faces run against their winds. Smoke 0's
+/// clipped masses by element are 18 72 64 1, then 1 24 36 6, then 2 4 6 0;
+/// smoke 1's are 2 0 5 1.
 const ALL_FOUR_WAYS: Listing = Listing {
     shape: Shape { nx: 2, ny: 2, k: 2 },
     calls: &[
@@ -99,9 +103,9 @@ const ALL_FOUR_WAYS: Listing = Listing {
             "load 0 24 38 0 6 0 0 0 0 0 21 0 22 15 0 0 8 0 0 35 0 3 15 31 10 0 0 0 24 2 0 24 2 0 38 0 0",
             "accepted",
         ),
-        ("emission 0 1 1 16", "accepted"),
+        ("emission 0 1 1 16", "accepted clipped 0"),
         ("emission 1 2 0 100000001", "refused 8"),
-        ("emission 1 0 0 172", "accepted"),
+        ("emission 1 0 0 172", "accepted clipped 0"),
         ("wind east 0 0 -1024", "accepted"),
         ("wind east 1 0 700", "accepted"),
         ("wind east 2 0 -1025", "refused 5"),
@@ -111,16 +115,16 @@ const ALL_FOUR_WAYS: Listing = Listing {
         ("wind north 1 0 -300", "accepted"),
         ("wind north 0 1 1024", "accepted"),
         ("wind north 1 1 250", "accepted"),
-        ("step 0", "accepted -90 20 23 -3 -1 -12 57 12"),
-        ("step 1", "accepted 0 0 0 0 19 0 -6 0"),
-        ("step 0", "accepted -19 3 25 -2 11 -11 107 12"),
-        ("withdrawal 0 0 1 207", "accepted"),
+        ("step 0", "accepted -90 20 23 -3 -1 -12 57 12 clipped 155"),
+        ("step 1", "accepted 0 0 0 0 19 0 -6 0 clipped 8"),
+        ("step 0", "accepted -19 3 25 -2 11 -11 107 12 clipped 67"),
+        ("withdrawal 0 0 1 207", "accepted clipped 0"),
         ("withdrawal 0 0 1 221", "refused 10"),
         (
             "load 1 100000000 0 0 0 0 0 0 0 0 0 0 0 0 0 0 0 0 1 0 0 0 0 0 0 0 0 0 0 0 0 0 0 0 0 0 0",
             "refused 9",
         ),
-        ("step 0", "accepted -18 2 12 -2 30 -9 50 11"),
+        ("step 0", "accepted -18 2 12 -2 30 -9 50 11 clipped 12"),
     ],
     wind: &[-1024, 700, 300, 300, 500, -300, 1024, 250],
     parts: [

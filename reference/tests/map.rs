@@ -136,8 +136,7 @@ fn eleven_rows() {
         "  0         0                                                            \n",
         "sum                                                                    55\n",
     ];
-    let masses: Vec<u32> = (0..11).collect();
-    assert_eq!(page_of(&masses, 1, 11), page.concat());
+    assert_eq!(page_of(&Vec::from_iter(0..11), 1, 11), page.concat());
 }
 
 /// A hundred million has nine digits, so a blank stays before it. Ten blocks
@@ -333,9 +332,8 @@ fn short_slices_are_4_before_6_and_7() {
     assert_eq!(answer(&[0; 40], 222, 0), Ok(222));
     // On the largest grid, one byte too few.
     let mut page = vec![OLD; 651 * 74];
-    let last = page.len() - 1;
     let field = vec![0; 40_960];
-    assert_eq!(map(&mut page[..last], &field, 64, 64, 1, 0), Err(4));
+    assert_eq!(map(&mut page[..48_173], &field, 64, 64, 1, 0), Err(4));
     assert!(page.iter().all(|&byte| byte == OLD));
     assert_eq!(map(&mut page, &field, 64, 64, 1, 0), Ok(651 * 74));
 }

@@ -1,28 +1,13 @@
 //! Random lists of calls: conservation, the ledger, struck calls.
 
+mod random;
 mod shared;
 
+use random::{calls, SHAPES};
 use reference::checks::element_mass;
 use reference::lists::{Answer, Call, State};
 use reference::{generator, Shape};
 use shared::{smoke_of, Ledger};
-
-const SHAPES: [(usize, usize, usize); 8] = [
-    (1, 1, 1),
-    (1, 2, 2),
-    (2, 1, 3),
-    (2, 2, 8),
-    (1, 5, 1),
-    (5, 1, 2),
-    (3, 4, 2),
-    (7, 6, 3),
-];
-
-fn calls(seed: u64, (nx, ny, k): (usize, usize, usize)) -> Vec<Call> {
-    let script = generator::script(seed, nx, ny, k, 300).unwrap();
-    let lines = script.lines().skip(1);
-    lines.map(|line| line.parse().unwrap()).collect()
-}
 
 fn masses(state: &State) -> Vec<u64> {
     state.field.chunks_exact(10).map(element_mass).collect()
@@ -35,7 +20,7 @@ fn steps_conserve_the_total() {
         let mut state = State::new(nx, ny, k);
         for call in calls(seed as u64, (nx, ny, k)) {
             let before = masses(&state);
-            if let (Call::Step(smoke), Answer::Stepped(_)) = (&call, state.run(&call)) {
+            if let (Call::Step(smoke), Answer::Stepped(..)) = (&call, state.run(&call)) {
                 let after = masses(&state);
                 let part = smoke * nx * ny..(smoke + 1) * nx * ny;
                 let sum = |all: &[u64]| all[part.clone()].iter().sum::<u64>();
@@ -124,8 +109,8 @@ fn a_list_prints_its_answers() {
     let script = "grid 1 1 1\nwind east 0 0 1024\nload 0 7 7 7 7 7 7 7 7 7\n\
                   emission 0 0 0 5\nstep 0\nmass 0 0 0\ntotal 0\ntotal 1\n\
                   withdrawal 0 0 0 258\nload 0 1\n";
-    let printed = "accepted\naccepted\naccepted\naccepted 63 0\n257\n257\nrefused 7\n\
-                   refused 10\nrefused 4\nfield 7 7 7 7 7 7 7 7 7 5\nwind 1024 0\n";
+    let printed = "accepted\naccepted\naccepted clipped 0\naccepted 63 0 clipped 0\n\
+                   257\n257\nrefused 7\nrefused 10\nrefused 4\nfield 7 7 7 7 7 7 7 7 7 5\nwind 1024 0\n";
     assert_eq!(reference::lists::output(script).unwrap(), printed);
 }
 

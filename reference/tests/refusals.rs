@@ -122,11 +122,11 @@ fn step_is_5_6_7_of_the_named_smoke() {
     assert_eq!(run(&mut field(36), &bad, 1), Err(5));
     assert_eq!(run(&mut field(36), &bad, 7), Err(5));
     assert_eq!(run(&mut field(36), &good, 1), Err(6));
-    assert_eq!(run(&mut field(36), &good, 0), Ok(()));
+    assert_eq!(run(&mut field(36), &good, 0), Ok(0));
     assert_eq!(run(&mut field(36), &good, 2), Err(7));
     assert_eq!(run(&mut field(36), &good, HUGE), Err(7));
     assert_eq!(run(&mut [u32::MAX; 40], &good, 1), Err(6));
-    assert_eq!(run(&mut field(35), &good, 1), Ok(()));
+    assert_eq!(run(&mut field(35), &good, 1), Ok(0));
 }
 
 #[test]
@@ -161,7 +161,7 @@ fn fresh_and_emission_leave_surplus_alone() {
     assert_eq!(fresh(&mut f, &mut w, 2, 1, 2), Ok(()));
     assert_eq!((&f[..40], &f[40..]), (&[0; 40][..], &[9; 2][..]));
     assert_eq!(w, [0, 0, 0, 0, 9, 9]);
-    assert_eq!(emission(&mut f, 2, 1, 2, 1, 1, 0, 77), Ok(()));
+    assert_eq!(emission(&mut f, 2, 1, 2, 1, 1, 0, 77), Ok(0));
     assert_eq!(f[30..], [2, 2, 2, 2, 2, 2, 2, 2, 2, 5, 9, 9]);
     assert!(f[..30].iter().all(|&number| number == 0));
 }

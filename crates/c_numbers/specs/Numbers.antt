@@ -1,10 +1,11 @@
 -- Shapes, faces and answers as the C interface passes them.
-use Rattle.std.specs.Prelude.{◌≡◌, ℕ, zero, suc, ◌+◌, ◌*◌, ◌≤◌, ℤ, pos, neg_ℤ}
+use Rattle.std.specs.Prelude.{◌≡◌, ℕ, zero, suc, ◌+◌, ◌*◌, ℤ, pos, neg_ℤ}
 use Rattle.rules.specs.declared.Shape.{Shape}
 use Rattle.rules.specs.declared.Face.{Face}
 use Rattle.rules.specs.declared.Way.TheVariants.{East, North}
 use Rattle.rules.specs.Answers.{Answer, accepted, refused}
-use Rattle.rules.specs.Field.{Admitted, limit}
+use Rattle.rules.specs.Field.{Admitted}
+use Rattle.rules.specs.Sizes.{step_clipped_size}
 
 -- a shape from its three numbers
 abbrev pub shape_of : ℕ → ℕ → ℕ → Shape
@@ -39,9 +40,9 @@ shape_or (refused n) = neg_ℤ (pos n)
 pub record AdmittedShape (a : Answer Shape) : Type 0 where
   pub small : (g : Shape) → a ≡ accepted g → Admitted g
 
--- an answered number is at most the limit
-pub record Small (a : Answer ℕ) : Type 0 where
-  pub small : (n : ℕ) → a ≡ accepted n → n ≤ limit
+-- the most that a call answers: a step's clipped mass
+abbrev pub most_answered : ℕ
+most_answered = step_clipped_size
 
 -- what is told of an answer by its number
 abbrev pub coded : ℕ → Answer (Unit {0}) → Type 0

@@ -5,9 +5,9 @@
 
 ghost use Rattle.std.specs.Prelude.{◌≡◌, pos, neg_ℤ};
 ghost use Rattle.whole.specs.Bound.{Are};
-ghost use Rattle.rules.specs.Answers.{number, answered};
+ghost use Rattle.rules.specs.Answers.{number, answered, AtMost};
 ghost use Rattle.rules.specs.Field.{limit};
-ghost use Rattle.c_numbers.specs.Numbers.{shape_of, face_of, code, number_or, Small, shape_or, AdmittedShape};
+ghost use Rattle.c_numbers.specs.Numbers.{shape_of, face_of, code, most_answered, number_or, shape_or, AdmittedShape};
 
 use rules::{Face, Refusal, Shape, Way};
 
@@ -28,10 +28,10 @@ fn negated(r: Refusal) -> i64
     -i64::from(u8::from(r))
 }
 
-// The number that is answered, or the refusal's number negated. A leaf: the number is at most the limit.
+// The number that is answered, or the refusal's number negated. A leaf: the number is at most the largest that a call answers, a step's clipped mass.
 pub fn number_or(answer: Result<u64, Refusal>) -> i64
-    requires { Small (answered answer) }
-    ensures { Are limit result (number_or (answered answer)) }
+    requires { AtMost most_answered (answered answer) }
+    ensures { Are most_answered result (number_or (answered answer)) }
 {
     match answer {
         Ok(n) => n as i64,

@@ -1,5 +1,5 @@
 // One line for a call: it runs on a copy of the buffers that it is given, and tells what it answered and what it left.
-use super::show::{self, Answer, FieldLeft, WindsLeft};
+use super::show::{self, Answer, Clipped, FieldLeft, WindsLeft};
 use rules::{Face, Refusal, Shape, Way};
 use std::{fmt, io};
 
@@ -31,12 +31,13 @@ pub(crate) enum Change {
 }
 
 impl Change {
-    pub(crate) fn call(self, field: &mut [u32], shape: Shape, place: Place) -> Result<(), Refusal> {
+    pub(crate) fn call(self, field: &mut [u32], shape: Shape, place: Place) -> Answer<Clipped> {
         let Place { tracer, i, j } = place;
-        match self {
+        let answer = match self {
             Change::Emission(q) => field::emission(field, shape, tracer, i, j, q),
             Change::Withdrawal(q) => field::withdrawal(field, shape, tracer, i, j, q),
-        }
+        };
+        Answer(answer.map(|mass| Clipped(mass)))
     }
 }
 
@@ -65,7 +66,7 @@ impl<'a, P: Print> Case<'a, P> {
     pub(crate) fn apply(&self, before: [u32; 59], place: Place, change: Change) -> io::Result<()> {
         let Case { rt, edge, shape } = *self;
         let mut after = before;
-        let answer = show::outcome(change.call(&mut after, shape, place));
+        let answer = change.call(&mut after, shape, place);
         let left = FieldLeft {
             before: &before,
             after: &after,

@@ -38,7 +38,6 @@ fn elements(rt: &impl Print) -> io::Result<()> {
 fn element(rt: &impl Print, edge: &str, before: [u32; 10], change: Change) -> io::Result<()> {
     let mut element = before;
     let answer = change.call(&mut element, calls::shape(1, 1, 1), calls::at(0, 0, 0));
-    let answer = show::outcome(answer);
     println!(rt; "{change}, {edge}: {answer}, element{}", Numbers(&element))
 }
 

@@ -21,6 +21,16 @@ pub(crate) fn outcome(answer: Result<(), Refusal>) -> Answer<&'static str> {
     Answer(answer.map(|()| "accepted"))
 }
 
+// The clipped mass that an accepted call answers.
+#[derive(Drop)]
+pub(crate) struct Clipped(pub(crate) u64);
+
+impl fmt::Display for Clipped {
+    fn fmt<W: fmt::Write>(&self, f: &mut fmt::Formatter<W>) -> fmt::Result {
+        write!(f, "accepted, clipped {}", self.0)
+    }
+}
+
 // Each number after a space.
 #[derive(Drop)]
 pub(crate) struct Numbers<'a, T>(pub(crate) &'a [T]);

@@ -9,9 +9,9 @@ use lib.Dec.{leb, ltb, leb→le, ltb→lt}
 use lib.ListN.{length}
 use Rattle.whole.proofs.Cases.{both_yes, and-true}
 use Rattle.rules.specs.declared.Shape.{Shape}
-use Rattle.rules.specs.Answers.{Answer, accepted, refused, Check, check, answer, plain}
+use Rattle.rules.specs.Answers.{Answer, accepted, refused, Check, check, answer, mapped}
 use Rattle.rules.specs.Field.{quadratic, admitted, element, on_grid, field_length, part, with_part, mass, total, limit, Admitted}
-use Rattle.rules.specs.Calls.{Operation, emission, withdrawal, Lent, lent_enough, sound_if_there, checks, done, call, mass_reading, total_reading, Reply, no_report, total_checks}
+use Rattle.rules.specs.Calls.{Operation, emission, withdrawal, emitted, withdrawn, Lent, lent_enough, sound_if_there, checks, done, call, mass_reading, total_reading, Reply, no_report, total_checks}
 use Rattle.field_layout.specs.Places.{Inside}
 use Rattle.field_search.specs.Search.{searched}
 use Rattle.rules.proofs.AnswerLaws.{answer-ind, prefix-refused, prefix-accepted, after-refused, after-accepted}
@@ -49,18 +49,18 @@ module _ (g : Shape) (s : ℕ) (f : List ℕ) where
       })
 
   -- the calls go on from there: those that are lent nothing beside the field
-  going_on : (ds : List Check) → ◌≡◌ {A = Answer Reply}
-      (answer (check 2 (admitted g) ∷ check 4 (leb (field_length quadratic g) (length f) && true) ∷ check 6 (sound_if_there quadratic g (ltb s g.tracers) p) ∷ check 7 (ltb s g.tracers) ∷ ds) no_report)
-      (answer (first ++ ds) no_report)
-  going_on ds = λ k. answer (check 2 (admitted g) ∷ check 4 (and-true (leb (field_length quadratic g) (length f)) k) ∷ check 6 (sound_if_there quadratic g (ltb s g.tracers) p) ∷ check 7 (ltb s g.tracers) ∷ ds) no_report
+  going_on : (ds : List Check) (r : Reply) → ◌≡◌ {A = Answer Reply}
+      (answer (check 2 (admitted g) ∷ check 4 (leb (field_length quadratic g) (length f) && true) ∷ check 6 (sound_if_there quadratic g (ltb s g.tracers) p) ∷ check 7 (ltb s g.tracers) ∷ ds) r)
+      (answer (first ++ ds) r)
+  going_on ds r = λ k. answer (check 2 (admitted g) ∷ check 4 (and-true (leb (field_length quadratic g) (length f)) k) ∷ check 6 (sound_if_there quadratic g (ltb s g.tracers) p) ∷ check 7 (ltb s g.tracers) ∷ ds) r
 
-  pub emission-reply : (i j q : ℕ) → (call quadratic g s (emission i j q) f).reply ≡ answer (first ++ (check 8 (on_grid g i j) ∷ check 9 (leb (total quadratic g p + q) limit) ∷ [])) no_report
+  pub emission-reply : (i j q : ℕ) → (call quadratic g s (emission i j q) f).reply ≡ answer (first ++ (check 8 (on_grid g i j) ∷ check 9 (leb (total quadratic g p + q) limit) ∷ [])) (no_report (emitted quadratic (element g i j) q p).clipped)
   unfolding call checks lent_enough done
-  emission-reply i j q = going_on (check 8 (on_grid g i j) ∷ check 9 (leb (total quadratic g p + q) limit) ∷ [])
+  emission-reply i j q = going_on (check 8 (on_grid g i j) ∷ check 9 (leb (total quadratic g p + q) limit) ∷ []) (no_report (emitted quadratic (element g i j) q p).clipped)
 
-  pub withdrawal-reply : (i j q : ℕ) → (call quadratic g s (withdrawal i j q) f).reply ≡ answer (first ++ (check 8 (on_grid g i j) ∷ check 10 (leb q (mass quadratic p (element g i j))) ∷ [])) no_report
+  pub withdrawal-reply : (i j q : ℕ) → (call quadratic g s (withdrawal i j q) f).reply ≡ answer (first ++ (check 8 (on_grid g i j) ∷ check 10 (leb q (mass quadratic p (element g i j))) ∷ [])) (no_report (withdrawn quadratic (element g i j) q p).clipped)
   unfolding call checks lent_enough done
-  withdrawal-reply i j q = going_on (check 8 (on_grid g i j) ∷ check 10 (leb q (mass quadratic p (element g i j))) ∷ [])
+  withdrawal-reply i j q = going_on (check 8 (on_grid g i j) ∷ check 10 (leb q (mass quadratic p (element g i j))) ∷ []) (no_report (withdrawn quadratic (element g i j) q p).clipped)
 
   pub mass-reply : (i j : ℕ) → mass_reading quadratic g s i j f ≡ answer (first ++ (check 8 (on_grid g i j) ∷ [])) (mass quadratic p (element g i j))
   unfolding mass_reading
@@ -118,6 +118,10 @@ module _ (g : Shape) (s i j : ℕ) (f : List ℕ) where
   abbrev m : ℕ
   m = mass quadratic (part quadratic g s f) (element g i j)
 
+  -- what an accepted withdrawal of q answers
+  abbrev pub taken : ℕ → Reply
+  taken q = no_report (withdrawn quadratic (element g i j) q (part quadratic g s f)).clipped
+
   -- 2, 4, 6, 7 and 8
   abbrev five : List Check
   five = first g s f ++ (check 8 (on_grid g i j) ∷ [])
@@ -146,55 +150,61 @@ module _ (g : Shape) (s i j : ℕ) (f : List ℕ) where
 
   pub withdrawal-refused : (q n : ℕ) → mass_reading quadratic g s i j f ≡ refused n → (call quadratic g s (withdrawal i j q) f).reply ≡ refused n
   unfolding mass_reading
-  withdrawal-refused q n e = withdrawal-reply g s f i j q ∙ prefix-refused five (check 10 (leb q m) ∷ []) m no_report n e
+  withdrawal-refused q n e = withdrawal-reply g s f i j q ∙ prefix-refused five (check 10 (leb q m) ∷ []) m (taken q) n e
 
   pub withdrawal-over : (q h : ℕ) → mass_reading quadratic g s i j f ≡ accepted h → h < q → (call quadratic g s (withdrawal i j q) f).reply ≡ refused 10
   unfolding mass_reading answer
-  withdrawal-over q h e b = withdrawal-reply g s f i j q ∙ prefix-accepted five (check 10 (leb q m) ∷ []) m h no_report e ∙ (rw (← (held h e).is, lt-leb _ _ b))
+  withdrawal-over q h e b = withdrawal-reply g s f i j q ∙ prefix-accepted five (check 10 (leb q m) ∷ []) m h (taken q) e ∙ (rw (← (held h e).is, lt-leb _ _ b))
 
-  pub withdrawal-accepted : (q h : ℕ) → mass_reading quadratic g s i j f ≡ accepted h → q ≤ h → (call quadratic g s (withdrawal i j q) f).reply ≡ accepted no_report
+  pub withdrawal-accepted : (q h : ℕ) → mass_reading quadratic g s i j f ≡ accepted h → q ≤ h → (call quadratic g s (withdrawal i j q) f).reply ≡ accepted (taken q)
   unfolding mass_reading answer
-  withdrawal-accepted q h e b = withdrawal-reply g s f i j q ∙ prefix-accepted five (check 10 (leb q m) ∷ []) m h no_report e ∙ (rw (← (held h e).is, le-leb _ _ b))
+  withdrawal-accepted q h e b = withdrawal-reply g s f i j q ∙ prefix-accepted five (check 10 (leb q m) ∷ []) m h (taken q) e ∙ (rw (← (held h e).is, le-leb _ _ b))
 
--- what a call on the grid of a shape gives is what it gives on the shape
-pub on_shape : {a : Answer (Unit {0})} {field : List ℕ} {g h : Shape} (s : ℕ) (op : Operation Lent) (f : List ℕ) → g ≡ h
-    → (a ≡ plain (call quadratic g s op f).reply) × (field ≡ (call quadratic g s op f).field) → (a ≡ plain (call quadratic h s op f).reply) × (field ≡ (call quadratic h s op f).field)
-on_shape {a} {field} s op f e p = subst (λ k. (a ≡ plain (call quadratic k s op f).reply) × (field ≡ (call quadratic k s op f).field)) e p
+-- ---- what a call gives, of whose reply `told` is answered
+module _ {A : Type 0} (told : Reply → A) where
+  -- what a call on the grid of a shape gives is what it gives on the shape
+  pub on_shape : {a : Answer A} {field : List ℕ} {g h : Shape} (s : ℕ) (op : Operation Lent) (f : List ℕ) → g ≡ h
+      → (a ≡ mapped told (call quadratic g s op f).reply) × (field ≡ (call quadratic g s op f).field) → (a ≡ mapped told (call quadratic h s op f).reply) × (field ≡ (call quadratic h s op f).field)
+  on_shape {a} {field} s op f e p = subst (λ k. (a ≡ mapped told (call quadratic k s op f).reply) × (field ≡ (call quadratic k s op f).field)) e p
 
--- what a refused and an accepted call leave
-module _ (g : Shape) (s : ℕ) (op : Operation Lent) (f : List ℕ) where
-  pub call-refused : (n : ℕ) → (call quadratic g s op f).reply ≡ refused n → (refused n ≡ plain (call quadratic g s op f).reply) × (f ≡ (call quadratic g s op f).field)
-  unfolding call plain
-  call-refused n e = (sym (ap plain e), sym (after-refused (call quadratic g s op f).reply n _ f e))
+  -- what a refused and an accepted call leave
+  module _ (g : Shape) (s : ℕ) (op : Operation Lent) (f : List ℕ) where
+    pub call-refused : (n : ℕ) → (call quadratic g s op f).reply ≡ refused n → (refused n ≡ mapped told (call quadratic g s op f).reply) × (f ≡ (call quadratic g s op f).field)
+    unfolding call mapped
+    call-refused n e = (sym (ap (mapped told) e), sym (after-refused (call quadratic g s op f).reply n _ f e))
 
-  pub call-accepted : (r : Reply) → (call quadratic g s op f).reply ≡ accepted r
-      → (accepted tt ≡ plain (call quadratic g s op f).reply) × (with_part quadratic g s (done quadratic g op (part quadratic g s f)).part f ≡ (call quadratic g s op f).field)
-  unfolding call plain
-  call-accepted r e = (sym (ap plain e), sym (after-accepted (call quadratic g s op f).reply r _ f e))
+    pub call-accepted : (r : Reply) → (call quadratic g s op f).reply ≡ accepted r
+        → (accepted (told r) ≡ mapped told (call quadratic g s op f).reply) × (with_part quadratic g s (done quadratic g op (part quadratic g s f)).part f ≡ (call quadratic g s op f).field)
+    unfolding call mapped
+    call-accepted r e = (sym (ap (mapped told) e), sym (after-accepted (call quadratic g s op f).reply r _ f e))
 
--- a call that its grid refuses
-pub grid-refused : {g h : Shape} {f : List ℕ} {n : ℕ} (s : ℕ) (op : Operation Lent) → g ≡ h → (call quadratic g s op f).reply ≡ refused n
-    → (refused n ≡ plain (call quadratic h s op f).reply) × (f ≡ (call quadratic h s op f).field)
-grid-refused {g} {h} {f} {n} s op e r = on_shape s op f e (call-refused g s op f n r)
+  -- a call that its grid refuses
+  pub grid-refused : {g h : Shape} {f : List ℕ} {n : ℕ} (s : ℕ) (op : Operation Lent) → g ≡ h → (call quadratic g s op f).reply ≡ refused n
+      → (refused n ≡ mapped told (call quadratic h s op f).reply) × (f ≡ (call quadratic h s op f).field)
+  grid-refused {g} {h} {f} {n} s op e r = on_shape s op f e (call-refused g s op f n r)
 
 module _ (g : Shape) (s i j q : ℕ) (f : List ℕ) where
   abbrev rest9 : List Check
   rest9 = check 8 (on_grid g i j) ∷ check 9 (leb (total quadratic g (part quadratic g s f) + q) limit) ∷ []
 
+  -- what an accepted one answers
+  abbrev pub added : Reply
+  added = no_report (emitted quadratic (element g i j) q (part quadratic g s f)).clipped
+
   pub emission-refused : (n : ℕ) → total_reading quadratic g s f ≡ refused n → (call quadratic g s (emission i j q) f).reply ≡ refused n
-  emission-refused n e = emission-reply g s f i j q ∙ first-refused g s f rest9 no_report n e
+  emission-refused n e = emission-reply g s f i j q ∙ first-refused g s f rest9 added n e
 
   pub emission-off-grid : (t : ℕ) → total_reading quadratic g s f ≡ accepted t → on_grid g i j ≡ false → (call quadratic g s (emission i j q) f).reply ≡ refused 8
   unfolding answer
-  emission-off-grid t e o = emission-reply g s f i j q ∙ first-accepted g s f rest9 no_report t e ∙ (rw o)
+  emission-off-grid t e o = emission-reply g s f i j q ∙ first-accepted g s f rest9 added t e ∙ (rw o)
 
   pub emission-above : (t : ℕ) → total_reading quadratic g s f ≡ accepted t → on_grid g i j ≡ true → limit < t + q → (call quadratic g s (emission i j q) f).reply ≡ refused 9
   unfolding answer
-  emission-above t e o b = emission-reply g s f i j q ∙ first-accepted g s f rest9 no_report t e ∙ (rw (o, ← (found g s f t e).sum, lt-leb _ _ b))
+  emission-above t e o b = emission-reply g s f i j q ∙ first-accepted g s f rest9 added t e ∙ (rw (o, ← (found g s f t e).sum, lt-leb _ _ b))
 
-  pub emission-accepted : (t : ℕ) → total_reading quadratic g s f ≡ accepted t → on_grid g i j ≡ true → t + q ≤ limit → (call quadratic g s (emission i j q) f).reply ≡ accepted no_report
+  pub emission-accepted : (t : ℕ) → total_reading quadratic g s f ≡ accepted t → on_grid g i j ≡ true → t + q ≤ limit → (call quadratic g s (emission i j q) f).reply ≡ accepted added
   unfolding answer
-  emission-accepted t e o b = emission-reply g s f i j q ∙ first-accepted g s f rest9 no_report t e ∙ (rw (o, ← (found g s f t e).sum, le-leb _ _ b))
+  emission-accepted t e o b = emission-reply g s f i j q ∙ first-accepted g s f rest9 added t e ∙ (rw (o, ← (found g s f t e).sum, le-leb _ _ b))
 
 -- 2 is the first check of every call on a tracer
 pub call-bad-shape : (g : Shape) (s : ℕ) (op : Operation Lent) (f : List ℕ) → admitted g ≡ false → (call quadratic g s op f).reply ≡ refused 2

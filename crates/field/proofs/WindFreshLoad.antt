@@ -11,7 +11,7 @@ use Rattle.whole.specs.Table.{blocks, overwrite}
 use Rattle.whole.proofs.SumLaws.{sum-cong}
 use Rattle.rules.specs.declared.Shape.{Shape}
 use Rattle.rules.specs.declared.Face.{Face}
-use Rattle.rules.specs.Answers.{Answer, accepted, refused, answer, after, plain}
+use Rattle.rules.specs.Answers.{Answer, accepted, refused, answer, after, mapped, plain}
 use Rattle.rules.specs.Field.{quadratic, admitted, elements, faces, on_grid, part_length, field_length, with_part, weighted, mass, total, limit, elements_length, wind_in_range}
 use Rattle.rules.specs.Grid.{face_index}
 use Rattle.rules.specs.Calls.{one_face, wind_reply, new_wind, wind_after, fresh_reply, fresh_field, fresh_wind, zero_field, zero_wind, load, loaded, loaded_element, loaded_value, lent_enough, checks, done, call}
@@ -90,29 +90,29 @@ module _ (g : Shape) (s : ℕ) (numbers field : List ℕ) where
   Loaded a new = (a ≡ plain (call quadratic g s (load numbers) field).reply) × (new ≡ (call quadratic g s (load numbers) field).field)
 
   pub load-2 : admitted g ≡ false → Loaded (refused 2) field
-  unfolding call answer after plain
+  unfolding call answer after mapped
   load-2 a = rw a (refl, refl)
 
   pub load-4-field : admitted g ≡ true → length field < field_length quadratic g → Loaded (refused 4) field
-  unfolding call answer after plain
+  unfolding call answer after mapped
   load-4-field a l = rw (a, lt-leb (field_length quadratic g) (length field) l) (refl, refl)
 
   pub load-4-numbers : admitted g ≡ true → field_length quadratic g ≤ length field → length numbers < elements g * 9 → Loaded (refused 4) field
-  unfolding call lent_enough quadratic answer after plain
+  unfolding call lent_enough quadratic answer after mapped
   load-4-numbers a l k = rw (a, le-leb (field_length quadratic g) (length field) l, lt-leb (elements g * 9) (length numbers) k) (refl, refl)
 
   pub load-7 : admitted g ≡ true → field_length quadratic g ≤ length field → elements g * 9 ≤ length numbers → g.tracers ≤ s → Loaded (refused 7) field
-  unfolding call lent_enough checks quadratic answer after plain
+  unfolding call lent_enough checks quadratic answer after mapped
   load-7 a l k t = rw (a, le-leb (field_length quadratic g) (length field) l, le-leb (elements g * 9) (length numbers) k, le-ltb s g.tracers t) (refl, refl)
 
   pub load-9 : admitted g ≡ true → field_length quadratic g ≤ length field → elements g * 9 ≤ length numbers → s < g.tracers
       → limit < total quadratic g (loaded quadratic g numbers) → Loaded (refused 9) field
-  unfolding call lent_enough checks quadratic answer after plain
+  unfolding call lent_enough checks quadratic answer after mapped
   load-9 a l k t m = rw (a, le-leb (field_length quadratic g) (length field) l, le-leb (elements g * 9) (length numbers) k, lt-ltb s g.tracers t, lt-leb (total quadratic g (loaded quadratic g numbers)) limit m) (refl, refl)
 
   pub load-done : admitted g ≡ true → field_length quadratic g ≤ length field → elements g * 9 ≤ length numbers → s < g.tracers
       → total quadratic g (loaded quadratic g numbers) ≤ limit → Loaded (accepted tt) (with_part quadratic g s (loaded quadratic g numbers) field)
-  unfolding call lent_enough checks done quadratic answer after plain
+  unfolding call lent_enough checks done quadratic answer after mapped
   load-done a l k t m = rw (a, le-leb (field_length quadratic g) (length field) l, le-leb (elements g * 9) (length numbers) k, lt-ltb s g.tracers t, le-leb (total quadratic g (loaded quadratic g numbers)) limit m) (refl, refl)
 
   -- the part that was lent and written, back in its place

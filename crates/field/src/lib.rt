@@ -8,6 +8,7 @@ ghost use Rattle.rules.specs.Field.{quadratic};
 ghost use Rattle.rules.specs.Calls.{load, emission, withdrawal, CallGives, FreshGives, WindGives, one_face};
 ghost use Rattle.rules.specs.Answers.{answers};
 
+use field_elements::{element, fill};
 use field_layout::Grid;
 use field_search::LIMIT;
 use rules::element::{NODES, NUMBERS};
@@ -17,7 +18,7 @@ mod readings; // readings.rt: an element's mass, a tracer's total
 
 pub use readings::{element_mass, mass, mass_on, total, total_on};
 
-// Emission of q into element (i, j) of a tracer.
+// Emission of q into element (i, j) of a tracer. The clipped mass is answered.
 pub fn emission(
     field: &mut [u32],
     shape: Shape,
@@ -25,7 +26,7 @@ pub fn emission(
     i: usize,
     j: usize,
     q: u64,
-) -> Result<(), Refusal>
+) -> Result<u64, Refusal>
     ensures { CallGives quadratic shape tracer (emission i j q) field.old (answers result) field.new }
 {
     let grid = Grid::try_from(shape)?;
@@ -38,11 +39,10 @@ pub fn emission(
     }
     let start = grid.element_start(tracer, i, j);
     let end = start + NUMBERS;
-    field_elements::element::emit(&mut field[start..end], q);
-    Ok(())
+    Ok(element::emit(&mut field[start..end], q))
 }
 
-// Withdrawal of q from element (i, j) of a tracer.
+// Withdrawal of q from element (i, j) of a tracer. The clipped mass is answered.
 pub fn withdrawal(
     field: &mut [u32],
     shape: Shape,
@@ -50,7 +50,7 @@ pub fn withdrawal(
     i: usize,
     j: usize,
     q: u64,
-) -> Result<(), Refusal>
+) -> Result<u64, Refusal>
     ensures { CallGives quadratic shape tracer (withdrawal i j q) field.old (answers result) field.new }
 {
     let grid = Grid::try_from(shape)?;
@@ -60,8 +60,7 @@ pub fn withdrawal(
     }
     let start = grid.element_start(tracer, i, j);
     let end = start + NUMBERS;
-    field_elements::element::withdraw(&mut field[start..end], q);
-    Ok(())
+    Ok(element::withdraw(&mut field[start..end], q))
 }
 
 // Load: nine numbers for each element of a tracer; every element is replaced.
@@ -79,12 +78,12 @@ pub fn load(field: &mut [u32], numbers: &[u32], shape: Shape, tracer: usize) -> 
     if grid.shape.tracers <= tracer {
         return Err(Refusal::NoSuchTracer);
     }
-    if LIMIT < field_elements::fill::loaded_total(numbers, n) {
+    if LIMIT < fill::loaded_total(numbers, n) {
         return Err(Refusal::TotalAboveLimit);
     }
     let start = grid.tracer_start(tracer);
     let end = start + grid.elements_length();
-    field_elements::fill::lay(&mut field[start..end], numbers, n);
+    fill::lay(&mut field[start..end], numbers, n);
     Ok(())
 }
 

@@ -5,6 +5,7 @@ ghost use Rattle.rules.specs.Field.{quadratic, element, field_length, part, mass
 ghost use Rattle.rules.specs.Calls.{mass_reading, total_reading};
 ghost use Rattle.field_layout.specs.Places.{Inside};
 
+use field_elements::element;
 use field_layout::Grid;
 use rules::element::NUMBERS;
 use rules::{Refusal, Shape};
@@ -59,5 +60,5 @@ pub fn element_mass(field: &[u32], grid: Grid, tracer: usize, i: usize, j: usize
 {
     let at = grid.element_start(tracer, i, j);
     let end = at + NUMBERS;
-    field_elements::element::mass(&field[at..end])
+    element::mass(&field[at..end])
 }

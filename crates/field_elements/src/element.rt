@@ -47,25 +47,27 @@ fn values(part: &[u32]) -> [i64; NODES]
     array::from_fn(|k| i64::from(part[k]))
 }
 
-// Emission of q: closes the element to its mass and q more.
-pub fn emit(part: &mut [u32], q: u64)
+// Emission of q: closes the element to its mass and q more. The clipped mass is answered.
+pub fn emit(part: &mut [u32], q: u64) -> u64
     requires part_len { length part.old ≡ 10 }
     requires q_bound { mass quadratic part.old 0 + q ≤ limit }
-    ensures { part.new ≡ emitted quadratic 0 q part.old }
+    ensures numbers { part.new ≡ (emitted quadratic 0 q part.old).numbers }
+    ensures clipped { result ≡ (emitted quadratic 0 q part.old).clipped }
 {
     let target = mass(part) + q;
     let psi = values(part);
-    Closing { psi: &psi, target }.close(part);
+    Closing { psi: &psi, target }.close(part)
 }
 
-// Withdrawal of q: closes the element to its mass less q, without levelling.
-pub fn withdraw(part: &mut [u32], q: u64)
+// Withdrawal of q: closes the element to its mass less q, without levelling. The clipped mass is answered.
+pub fn withdraw(part: &mut [u32], q: u64) -> u64
     requires part_len { length part.old ≡ 10 }
     requires part_bound { mass quadratic part.old 0 ≤ limit }
     requires q_bound { q ≤ mass quadratic part.old 0 }
-    ensures { part.new ≡ withdrawn quadratic 0 q part.old }
+    ensures numbers { part.new ≡ (withdrawn quadratic 0 q part.old).numbers }
+    ensures clipped { result ≡ (withdrawn quadratic 0 q part.old).clipped }
 {
     let target = mass(part) - q;
     let psi = values(part);
-    Closing { psi: &psi, target }.close_unlevelled(part);
+    Closing { psi: &psi, target }.close_unlevelled(part)
 }

@@ -18,7 +18,7 @@ use Rattle.whole.proofs.OverwriteLaws.{part_at}
 use Rattle.whole.proofs.SumLaws.{all-at}
 use Rattle.whole.proofs.TableLaws.{length-table, get_d-table}
 use Rattle.rules.specs.declared.Shape.{Shape}
-use Rattle.rules.specs.Field.{Kind, elements, faces, element_length, part_length, field_length, part, cell, remainder, mass, total, limit, weight_sum, sound, wind_in_range}
+use Rattle.rules.specs.Field.{Kind, elements, faces, element_length, part_length, field_length, part, cell, remainder, mass, total, limit, weight_sum, PositiveWeights, sound, wind_in_range}
 use Rattle.rules.specs.Calls.{wind_at, wind_sound}
 use Rattle.rules.specs.FieldFile.{field_sound}
 use Rattle.rules.proofs.PartLaws.{length-part, value-le-mass, mass-le-total}
@@ -70,7 +70,7 @@ module _ (κ : Kind) (g : Shape) where
         (λ s l. subst (λ p. T (sound κ g p)) (sym (parts_same s l)) (all-at g.tracers (λ s. sound κ g (part κ g s f)) t s l))
 
   -- ---- a sound tracer's numbers, of elements whose every node has a weight
-  module _ (weights : (k : ℕ) → k < κ.nodes → 0 < κ.weight k) where
+  module _ (weights : PositiveWeights κ) where
     cell-le-mass : (p : List ℕ) (e k : ℕ) → k < element_length κ → cell κ p e k ≤ mass κ p e
     unfolding element_length mass remainder
     cell-le-mass p e k h = go (dec_lt k κ.nodes)

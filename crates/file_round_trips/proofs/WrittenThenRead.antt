@@ -15,7 +15,7 @@ use Rattle.whole.proofs.OverwriteLaws.{front-is}
 use Rattle.whole.proofs.TableLaws.{length-table, get_d-table, table-cong}
 use Rattle.rules.specs.declared.Shape.{Shape}
 use Rattle.rules.specs.Answers.{accepted}
-use Rattle.rules.specs.Field.{Kind, admitted, faces, field_length}
+use Rattle.rules.specs.Field.{Kind, PositiveWeights, admitted, faces, field_length}
 use Rattle.rules.specs.Calls.{wind_at, wind_sound}
 use Rattle.rules.specs.Bytes.{byte_at, bytes32, number32, bytes16, number16}
 use Rattle.rules.specs.FieldFile.{section_start, table_start, file_length, mark, file_of, tail_shape, tail_right, file_wind, offsets_right, file_field, field_sound, read_reply, read_field, read_wind, write_reply, write_file}
@@ -74,7 +74,7 @@ module _ (κ : Kind) (g : Shape) (field : List ℕ) (wind : List ℤ) (file : Li
 
 -- a kind of element whose fields fit a file: every node has a weight, and the offsets of every admitted shape fit 32 bits
 pub record Storable (κ : Kind) : Type 0 where
-  pub weights : (k : ℕ) → k < κ.nodes → 0 < κ.weight k
+  pub weights : PositiveWeights κ
   pub offsets : (g : Shape) → T (admitted g) → file_length κ g < 4294967296
 
 module _ (κ : Kind) (ok : Storable κ) (g : Shape) (field field' : List ℕ) (wind wind' : List ℤ) (out : List ℕ) where

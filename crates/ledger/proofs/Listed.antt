@@ -14,7 +14,7 @@ use Rattle.rules.specs.declared.Way.{Way}
 use Rattle.rules.specs.declared.Way.TheVariants.{East, North}
 use Rattle.rules.specs.Answers.{Answer, accepted, refused, answer, after}
 use Rattle.rules.specs.Field.{quadratic, admitted, elements, faces, work_needed, element_length, elements_length, part_length, field_length, part, with_part, cell, remainder, mass, total, sound, weighted, weight_sum}
-use Rattle.rules.specs.Limiter.{mean_shift, adjusted, truncated, rescaled, rescaled_value, closing_remainder, closed_unlevelled, closed}
+use Rattle.rules.specs.Limiter.{mean_shift, adjusted, truncated, clipped, rescaled, rescaled_value, closing_remainder, closed_unlevelled, closed}
 use Rattle.rules.specs.Grid.{east, west, north, south, behind, ahead}
 use Rattle.rules.specs.Stages.{upwind, place_wind, advection, along_x, along_y, tendency, tabulated, stage0, stage1, stage2, tentative, flux_of, face_sum, stages, flux}
 use Rattle.rules.specs.Correction.{donor, outflow, with_sign, cut, limited_flux, target}
@@ -41,10 +41,10 @@ abbrev imports : List ℕ → Call
 imports records = on_wind (from_records records)
 
 abbrev yes : Answer Reply
-yes = accepted no_report
+yes = accepted (no_report 0)
 
-abbrev stepped : List ℤ → Answer Reply
-stepped r = accepted (record { report = r })
+abbrev stepped : List ℤ → ℕ → Answer Reply
+stepped r n = accepted (record { report = r; clipped = n })
 
 -- one row, so that a north face has both its ends at one element: both steps of smoke 0 cut what leaves an element, one face runs against its wind
 abbrev pub on-one-row : Listing
@@ -75,12 +75,12 @@ on-one-row = record {
       ∷ yes
       ∷ refused 5
       ∷ yes
-      ∷ stepped (pos 61 ∷ negsuc 6 ∷ pos 9 ∷ pos 0 ∷ [])
-      ∷ stepped (pos 28 ∷ negsuc 3 ∷ pos 8 ∷ pos 0 ∷ [])
+      ∷ stepped (pos 61 ∷ negsuc 6 ∷ pos 9 ∷ pos 0 ∷ []) 52
+      ∷ stepped (pos 28 ∷ negsuc 3 ∷ pos 8 ∷ pos 0 ∷ []) 6
       ∷ yes
       ∷ refused 10
       ∷ refused 9
-      ∷ stepped (pos 5 ∷ negsuc 3 ∷ pos 0 ∷ pos 0 ∷ [])
+      ∷ stepped (pos 5 ∷ negsuc 3 ∷ pos 0 ∷ pos 0 ∷ []) 4
       ∷ [];
   parts = (0 ∷ 0 ∷ 1 ∷ 0 ∷ 0 ∷ 0 ∷ 0 ∷ 0 ∷ 0 ∷ 1 ∷ 6 ∷ 3 ∷ 0 ∷ 1 ∷ 1 ∷ 0 ∷ 4 ∷ 2 ∷ 1 ∷ 11 ∷ []) ∷ (1 ∷ 4 ∷ 4 ∷ 1 ∷ 4 ∷ 4 ∷ 1 ∷ 4 ∷ 4 ∷ 14 ∷ 3 ∷ 0 ∷ 0 ∷ 3 ∷ 0 ∷ 0 ∷ 3 ∷ 0 ∷ 0 ∷ 14 ∷ []) ∷ [];
   winds = pos 1024 ∷ pos 700 ∷ pos 300 ∷ pos 0 ∷ [];
@@ -114,13 +114,13 @@ by-import = record {
       ∷ yes
       ∷ yes
       ∷ refused 5
-      ∷ stepped (pos 61 ∷ negsuc 6 ∷ pos 9 ∷ pos 0 ∷ [])
+      ∷ stepped (pos 61 ∷ negsuc 6 ∷ pos 9 ∷ pos 0 ∷ []) 52
       ∷ refused 12
-      ∷ stepped (pos 28 ∷ negsuc 3 ∷ pos 8 ∷ pos 0 ∷ [])
+      ∷ stepped (pos 28 ∷ negsuc 3 ∷ pos 8 ∷ pos 0 ∷ []) 6
       ∷ yes
       ∷ refused 11
       ∷ refused 11
-      ∷ stepped (pos 5 ∷ negsuc 3 ∷ pos 0 ∷ pos 0 ∷ [])
+      ∷ stepped (pos 5 ∷ negsuc 3 ∷ pos 0 ∷ pos 0 ∷ []) 4
       ∷ [];
   parts = on-one-row.parts;
   winds = on-one-row.winds;
@@ -167,13 +167,13 @@ all-four-ways = record {
       ∷ yes
       ∷ yes
       ∷ yes
-      ∷ stepped (negsuc 89 ∷ pos 20 ∷ pos 23 ∷ negsuc 2 ∷ negsuc 0 ∷ negsuc 11 ∷ pos 57 ∷ pos 12 ∷ [])
-      ∷ stepped (pos 0 ∷ pos 0 ∷ pos 0 ∷ pos 0 ∷ pos 19 ∷ pos 0 ∷ negsuc 5 ∷ pos 0 ∷ [])
-      ∷ stepped (negsuc 18 ∷ pos 3 ∷ pos 25 ∷ negsuc 1 ∷ pos 11 ∷ negsuc 10 ∷ pos 107 ∷ pos 12 ∷ [])
+      ∷ stepped (negsuc 89 ∷ pos 20 ∷ pos 23 ∷ negsuc 2 ∷ negsuc 0 ∷ negsuc 11 ∷ pos 57 ∷ pos 12 ∷ []) 155
+      ∷ stepped (pos 0 ∷ pos 0 ∷ pos 0 ∷ pos 0 ∷ pos 19 ∷ pos 0 ∷ negsuc 5 ∷ pos 0 ∷ []) 8
+      ∷ stepped (negsuc 18 ∷ pos 3 ∷ pos 25 ∷ negsuc 1 ∷ pos 11 ∷ negsuc 10 ∷ pos 107 ∷ pos 12 ∷ []) 67
       ∷ yes
       ∷ refused 10
       ∷ refused 9
-      ∷ stepped (negsuc 17 ∷ pos 2 ∷ pos 12 ∷ negsuc 1 ∷ pos 30 ∷ negsuc 8 ∷ pos 50 ∷ pos 11 ∷ [])
+      ∷ stepped (negsuc 17 ∷ pos 2 ∷ pos 12 ∷ negsuc 1 ∷ pos 30 ∷ negsuc 8 ∷ pos 50 ∷ pos 11 ∷ []) 12
       ∷ [];
   parts = (0 ∷ 11 ∷ 10 ∷ 6 ∷ 22 ∷ 1 ∷ 4 ∷ 13 ∷ 3 ∷ 33 ∷ 7 ∷ 0 ∷ 2 ∷ 0 ∷ 0 ∷ 0 ∷ 3 ∷ 0 ∷ 0 ∷ 14 ∷ 2 ∷ 3 ∷ 0 ∷ 0 ∷ 7 ∷ 6 ∷ 0 ∷ 7 ∷ 7 ∷ 1 ∷ 7 ∷ 4 ∷ 1 ∷ 14 ∷ 5 ∷ 0 ∷ 16 ∷ 4 ∷ 0 ∷ 22 ∷ []) ∷ (0 ∷ 0 ∷ 0 ∷ 3 ∷ 5 ∷ 1 ∷ 3 ∷ 7 ∷ 1 ∷ 19 ∷ 0 ∷ 0 ∷ 0 ∷ 0 ∷ 0 ∷ 0 ∷ 0 ∷ 0 ∷ 0 ∷ 0 ∷ 0 ∷ 2 ∷ 1 ∷ 0 ∷ 0 ∷ 0 ∷ 0 ∷ 0 ∷ 0 ∷ 16 ∷ 0 ∷ 0 ∷ 0 ∷ 0 ∷ 0 ∷ 0 ∷ 0 ∷ 0 ∷ 0 ∷ 0 ∷ []) ∷ [];
   winds = negsuc 1023 ∷ pos 700 ∷ pos 300 ∷ pos 300 ∷ pos 500 ∷ negsuc 299 ∷ pos 1024 ∷ pos 250 ∷ [];
@@ -215,6 +215,6 @@ unfolding evaluated struck strike stays replies_left ledger ledger_from line ent
     all_record_checks record_checks reading_checks record_start whole_at components_at record_winds face_wind exact_value magnitude nearest nearest_natural number64 number32
     fresh zero_field zero_wind element_length elements_length part_length field_length part with_part cell remainder mass total weighted weight_sum quadratic
     tracer_step stages stage0 stage1 stage2 tentative tabulated tendency along_x along_y advection place_wind upwind flux flux_of face_sum report finish donor outflow limited_flux cut with_sign target
-    closed closed_unlevelled adjusted mean_shift truncated rescaled rescaled_value closing_remainder east west north south behind ahead
+    closed closed_unlevelled clipped adjusted mean_shift truncated rescaled rescaled_value closing_remainder east west north south behind ahead
     sum sum_ℤ all table blocks overwrite positive
 listed = refl

@@ -12,9 +12,9 @@ use Rattle.whole.proofs.OverwriteLaws.{front-is}
 use Rattle.whole.proofs.TableLaws.{length-table}
 use Rattle.rules.specs.declared.Shape.{Shape}
 use Rattle.std.specs.Prelude.{Ok}
-use Rattle.rules.specs.Answers.{Answer, accepted, refused, plain, answered, answers}
+use Rattle.rules.specs.Answers.{Answer, accepted, refused, mapped, plain, answers}
 use Rattle.rules.specs.Field.{quadratic, faces, field_length, part, remainder, mass, total, limit}
-use Rattle.rules.specs.Calls.{Operation, load, emission, withdrawal, step, Lent, lengths_lent, lent, Reply, no_report, done, call, fresh_reply, fresh_field, fresh_wind, zero_field, zero_wind, report_after, FreshGives, fresh_checks}
+use Rattle.rules.specs.Calls.{Operation, load, emission, withdrawal, step, Lent, lengths_lent, lent, Reply, no_report, done, call, fresh_reply, fresh_field, fresh_wind, zero_field, zero_wind, clipped_mass, report_after, FreshGives, fresh_checks}
 use Rattle.rules.specs.Step.{report, tracer_step}
 use Rattle.rules.proofs.AnswerLaws.{answer-ind, after-accepted}
 use Rattle.rules.proofs.FieldLaws.{call-ind}
@@ -24,19 +24,22 @@ use Rattle.ledger.specs.OverCalls.{Given, Made, Row, reported, told, all_told, A
 use Rattle.ledger.proofs.Theorem.{demand-3}
 
 -- ---- one answer
--- with no report: what the code answers is all that there is
-no-report : (a : Answer Reply) (o : Answer (Unit {0})) → ((r : Reply) → a ≡ accepted r → r ≡ no_report) → o ≡ plain a → unreported o ≡ a
-unfolding unreported plain
+-- with no report and nothing clipped: what the code answers is all that there is
+no-report : (a : Answer Reply) (o : Answer (Unit {0})) → ((r : Reply) → a ≡ accepted r → r ≡ no_report 0) → o ≡ plain a → unreported o ≡ a
+unfolding unreported mapped
 no-report (accepted r) o h e = ap unreported e ∙ ap accepted (sym (h r refl))
 no-report (refused n) o h e = ap unreported e
 
--- with a report: its front is in the report buffer
-with-report : (n : ℕ) (a : Answer Reply) (o : Answer (Unit {0})) (old new : List ℤ) → ((r : Reply) → a ≡ accepted r → length r.report ≡ n) → o ≡ plain a → new ≡ report_after a old → reported o (take n new) ≡ a
-unfolding reported plain report_after
-with-report n (accepted r) o old new h e f =
-    ap (λ x. reported x (take n new)) e ∙ ap (λ l. accepted (record { report = take n l })) (f ∙ front-is r.report old)
-    ∙ ap (λ l. accepted (record { report = l })) (take_at r.report (drop (length r.report) old) n (h r refl))
-with-report n (refused m) o old new h e f = ap (λ x. reported x (take n new)) e
+-- with a clipped mass, which the code answers: with the report it is all that there is
+with-report : (a : Answer Reply) (o : Answer ℕ) (l : List ℤ) → ((r : Reply) → a ≡ accepted r → r.report ≡ l) → o ≡ clipped_mass a → reported o l ≡ a
+unfolding reported mapped
+with-report (accepted r) o l h e = ap (λ x. reported x l) e ∙ ap (λ l. accepted (record { report = l; clipped = r.clipped })) (sym (h r refl))
+with-report (refused n) o l h e = ap (λ x. reported x l) e
+
+-- a report of n numbers is the front of what the report buffer holds then
+report-left : (n : ℕ) (a : Answer Reply) (r : Reply) (old new : List ℤ) → a ≡ accepted r → length r.report ≡ n → new ≡ report_after a old → take n new ≡ r.report
+unfolding report_after
+report-left n a r old new e h f = ap (take n) (f ∙ ap (λ y. report_after y old) e ∙ front-is r.report old) ∙ take_at r.report (drop (length r.report) old) n h
 
 module _ (g : Shape) (s : ℕ) (op : Operation Lent) (field : List ℕ) where
   -- an accepted answer holds the operation's reply
@@ -60,12 +63,13 @@ module _ (g : Shape) (b : Buffers) where
   unfolding told perform lend done
   told_is (on_wind c) x d h = ap unreported h.0.0
   told_is (on s (load numbers)) x d h = no-report _ _ (reply-of g s (load numbers) x.field) h.0.0
-  told_is (on s (emission i j q)) x d h = no-report _ _ (reply-of g s (emission i j q) x.field) h.0.0
-  told_is (on s (withdrawal i j q)) x d h = no-report _ _ (reply-of g s (withdrawal i j q) x.field) h.0.0
+  told_is (on s (emission i j q)) x d h = with-report _ _ [] (λ r e. ap (λ y. y.report) (reply-of g s (emission i j q) x.field r e)) h.0.0
+  told_is (on s (withdrawal i j q)) x d h = with-report _ _ [] (λ r e. ap (λ y. y.report) (reply-of g s (withdrawal i j q) x.field r e)) h.0.0
   told_is (on s (step u)) x d h =
       let l = lent x.wind d.lent_report d.lent_work in
-      with-report (faces g) (call quadratic g s (step l) x.field).reply (answered d.answer) d.lent_report d.left_report
-      (λ r e. ap (λ y. length y.report) (reply-of g s (step l) x.field r e) ∙ report-long g (part quadratic g s x.field) l) h.0.0 h.0.1.1.0
+      let a = (call quadratic g s (step l) x.field).reply in
+      let long = λ (r : Reply) (e : a ≡ accepted r). ap (λ y. length y.report) (reply-of g s (step l) x.field r e) ∙ report-long g (part quadratic g s x.field) l in
+      with-report a _ _ (λ r e. sym (report-left (faces g) a r d.lent_report d.left_report e (long r e) h.0.1.1.0)) h.0.0
       ∙ ap (λ y. (call quadratic g s (step y) x.field).reply) (lent_is x d h.1.1.0 h.1.1.1)
 
   state-is : (c : Call) (x : State) (d : Given) → Made g b c x d → d.state ≡ (perform quadratic g b c x).state

@@ -38,9 +38,9 @@ lend b w (emission i j q) = emission i j q
 lend b w (withdrawal i j q) = withdrawal i j q
 lend b w (step u) = step (record { wind = w; report_length = b.report_length; work_length = b.work_length })
 
--- an answer with no report
+-- an answer with no report and nothing clipped
 unfoldable pub unreported : Answer (Unit {0}) → Answer Reply
-unreported (accepted u) = accepted no_report
+unreported (accepted u) = accepted (no_report 0)
 unreported (refused n) = refused n
 
 module _ (κ : Kind) (g : Shape) (b : Buffers) where

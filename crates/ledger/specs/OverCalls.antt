@@ -8,9 +8,14 @@ use Rattle.rules.specs.Calls.{load, emission, withdrawal, step, Reply, CallGives
 use Rattle.rules.specs.declared.Refusal.{Refusal}
 use Rattle.ledger.specs.Lists.{Call, on_wind, on, State, Buffers, unreported, ledger, strike, replies_left}
 
--- what one call of the code gave: its answer, field and wind at exit, and report and work at entry (lent) and at exit (left)
+-- what one call of the code gave: its answer, of one of two types, field and wind at exit, and report and work at entry (lent) and at exit (left). A call
+-- of the one type says nothing of the other's answer, and nothing reads it (`told`)
 pub record Given : Type 0 where
+  -- a wind call's, an import's and a load's, which "answers only that it was accepted"
   pub answer : Result (Unit {0}) Refusal
+  -- an emission's, a withdrawal's and a step's, accepted with the clipped mass (document 02, 2026-04): "A step gives the sum of this over its elements,
+  -- in its result. Emission and withdrawal pass on their closing's figure"
+  pub clipped : Result ℕ Refusal
   pub state : State
   pub lent_report : List ℤ
   pub left_report : List ℤ
@@ -24,10 +29,10 @@ module _ (g : Shape) (b : Buffers) where
   abbrev pub Made : Call → State → Given → Type 0
   Made (on_wind c) x d = WindGives g c x.wind (answers d.answer) d.state.wind × (d.state.field ≡ x.field)
   Made (on s (load numbers)) x d = CallGives quadratic g s (load numbers) x.field (answers d.answer) d.state.field × (d.state.wind ≡ x.wind)
-  Made (on s (emission i j q)) x d = CallGives quadratic g s (emission i j q) x.field (answers d.answer) d.state.field × (d.state.wind ≡ x.wind)
-  Made (on s (withdrawal i j q)) x d = CallGives quadratic g s (withdrawal i j q) x.field (answers d.answer) d.state.field × (d.state.wind ≡ x.wind)
+  Made (on s (emission i j q)) x d = CallGives quadratic g s (emission i j q) x.field (answers d.clipped) d.state.field × (d.state.wind ≡ x.wind)
+  Made (on s (withdrawal i j q)) x d = CallGives quadratic g s (withdrawal i j q) x.field (answers d.clipped) d.state.field × (d.state.wind ≡ x.wind)
   Made (on s (step u)) x d =
-      StepGives quadratic g s x.field x.wind d.lent_report d.lent_work (answers d.answer) d.state.field d.left_report d.left_work
+      StepGives quadratic g s x.field x.wind d.lent_report d.lent_work (answers d.clipped) d.state.field d.left_report d.left_work
       × ((d.state.wind ≡ x.wind) × ((length d.lent_report ≡ b.report_length) × (length d.lent_work ≡ b.work_length)))
 
   -- calls made one after the other, from state x to state z: "each call gets field and wind as the one before left them"
@@ -37,20 +42,20 @@ module _ (g : Shape) (b : Buffers) where
   Row (c ∷ cs) x [] z = ⊥
   Row (c ∷ cs) x (d ∷ ds) z = Made c x d × Row cs d.state ds z
 
--- an answer with this report where it is accepted
-unfoldable pub reported : Answer (Unit {0}) → List ℤ → Answer Reply
-reported (accepted u) r = accepted (record { report = r })
+-- an answer with this report where it is accepted; what was answered is the clipped mass
+unfoldable pub reported : Answer ℕ → List ℤ → Answer Reply
+reported (accepted n) r = accepted (record { report = r; clipped = n })
 reported (refused n) r = refused n
 
 module _ (g : Shape) where
-  -- the answer that the ledger is fed with: "An accepted step's answer there includes the report as that step left it"
+  -- the answer that the ledger is fed with: "An accepted step's answer there includes the report as that step left it", beside the clipped mass
   unfoldable pub told : Call → Given → Answer Reply
   unfolding unreported reported
   told (on_wind c) d = unreported (answered d.answer)
   told (on s (load numbers)) d = unreported (answered d.answer)
-  told (on s (emission i j q)) d = unreported (answered d.answer)
-  told (on s (withdrawal i j q)) d = unreported (answered d.answer)
-  told (on s (step u)) d = reported (answered d.answer) (take (faces g) d.left_report)
+  told (on s (emission i j q)) d = reported (answered d.clipped) []
+  told (on s (withdrawal i j q)) d = reported (answered d.clipped) []
+  told (on s (step u)) d = reported (answered d.clipped) (take (faces g) d.left_report)
 
   -- the answers that a row of calls gave, as the ledger is fed with them
   unfoldable pub all_told : List Call → List Given → List (Answer Reply)

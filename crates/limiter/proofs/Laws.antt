@@ -1,5 +1,5 @@
 -- The sums that the closing's loops keep are within bounds: every term by its value's size and its weight, and nine weights make 36.
-use mathlib.Core.Path.{◌≡◌, refl, sym}
+use mathlib.Core.Path.{◌≡◌, refl, sym, ap, subst, ◌∙◌}
 use mathlib.Core.List.{List}
 use Prim.Native.Nat.{ℕ, ◌+◌, ◌*◌, ◌≤◌, ◌<◌}
 use native.Mathlib.Nat.{mul-le-mul, le_trans, mul-le-mul_left, mul-le-mul_right, one-mul}
@@ -12,13 +12,14 @@ use Rattle.whole.specs.Table.{at}
 use Rattle.whole.specs.Bound.{Within, Are}
 use Rattle.whole.specs.Sum.{sum, sum_ℤ}
 use Rattle.whole.proofs.BoundLaws.{within-le, within-add, within-mul, within-pos, within-sum}
-use Rattle.whole.proofs.SumLaws.{sum-le, sum_more, sum_mono}
-use Rattle.whole.proofs.WholeLaws.{positive-le}
-use Rattle.rules.specs.Field.{quadratic, weighted}
-use Rattle.rules.specs.Limiter.{truncated, rescaled_value}
-use Rattle.rules.specs.Sizes.{tentative_size, levelled_size}
+use Rattle.whole.proofs.SumLaws.{sum-le, sum_more, sum_mono, weighted-raised}
+use Rattle.whole.proofs.WholeLaws.{positive-le, negative-le}
+use Rattle.rules.specs.Field.{quadratic, weight_sum, weighted}
+use Rattle.rules.specs.Limiter.{signed_sum, truncated, clipped, rescaled_value}
+use Rattle.rules.specs.Sizes.{tentative_size, levelled_size, clipped_size}
+use Rattle.rules.proofs.ClippedLaws.{clipped-le}
 use Rattle.rules.proofs.LimiterLaws.{values-le}
-use Rattle.rules.proofs.QuadraticLaws.{weights-above, weight-le}
+use Rattle.rules.proofs.QuadraticLaws.{weights-36, weights-above, weight-le}
 use Rattle.limiter.specs.Sizes.{Tentative, Shift, shifted}
 
 -- one term of the signed sum
@@ -44,6 +45,11 @@ terms-within l n h k = within-le (within-sum n (term l) bound each) (sum_mono bo
     each : (i : ℕ) → i < n → Within (bound i) (term l i)
     each i q = within-mul (within-pos (quadratic.weight i)) (h.small i (omega arith))
 
+-- the weighted sum of all nine
+pub sum-within : (l : List ℤ) → Tentative l → Within (36 * tentative_size) (signed_sum quadratic (at l))
+unfolding quadratic
+sum-within l h = terms-within l 9 h (omega arith)
+
 -- the weighted sum of the first n values
 abbrev pub weighted_to : (ℕ → ℕ) → ℕ → ℕ
 weighted_to v n = sum n (λ k. quadratic.weight k * v k)
@@ -61,10 +67,19 @@ module _ (l : List ℤ) (s : ℤ) where
   abbrev pub cut_value : ℕ → ℕ
   cut_value = truncated (shifted l s)
 
+  -- their weighted sum before truncation, by that of the values
+  pub sum-shifted : signed_sum quadratic (at l) +ℤ pos 36 *ℤ s ≡ signed_sum quadratic (shifted l s)
+  unfolding weight_sum
+  sum-shifted = ap (λ w. signed_sum quadratic (at l) +ℤ pos w *ℤ s) (sym weights-36) ∙ sym (weighted-raised quadratic.nodes quadratic.weight (at l) s)
+
   module _ (h : Tentative l) (b : Shift s) where
     pub cut_value-le : (k : ℕ) → k < 9 → cut_value k ≤ levelled_size
     unfolding truncated
     cut_value-le k q = omega (arith, positive-le (at l k +ℤ s), (within-add (h.small k q) b.small).within)
+
+    pub clipped-le_size : clipped quadratic (shifted l s) ≤ clipped_size
+    unfolding quadratic
+    clipped-le_size = omega (arith, weights-36, clipped-le quadratic (shifted l s) levelled_size (λ k q. omega (arith, negative-le (at l k +ℤ s), (within-add (h.small k q) b.small).within)))
 
     pub cut_sum-le : (n : ℕ) → n ≤ 9 → weighted_to cut_value n ≤ 36 * levelled_size
     unfolding sum quadratic
@@ -72,6 +87,13 @@ module _ (l : List ℤ) (s : ℤ) where
       where
         bound : ℕ → ℕ
         bound k = quadratic.weight k * levelled_size
+
+    -- of all nine
+    pub cut_sum : weighted quadratic cut_value ≤ 36 * levelled_size
+    cut_sum = omega (arith, weighted_to-all cut_value, cut_sum-le 9 (omega arith))
+
+    pub sum-shifted-within : Within (36 * levelled_size) (signed_sum quadratic (shifted l s))
+    sum-shifted-within = subst (Within (36 * levelled_size)) sum-shifted (within-le (within-add (sum-within l h) (within-mul (within-pos 36) b.small)) (omega arith))
 
 -- ---- the closed values
 module _ (l : List ℤ) (s : ℤ) (t : ℕ) where

@@ -1,15 +1,14 @@
-// The closing of an element, in place: mean adjustment (document 01: levelling), truncation, mass aware rescaling.
+// The closing of an element, in place: mean adjustment (document 01: levelling), truncation, mass aware rescaling. It answers the clipped mass.
 // Every function here is a leaf that other crates call with numbers which they have bounded. A u64 becomes an i64 or a u32 by `as`: std has no
 // `From` for it, and Rattle proves that nothing is lost, so that a `try_from` would add an unwrap that can never fail.
 #![tactic(auto)]
 
-ghost use Rattle.std.specs.Prelude.{◌≡◌, ◌*◌, ◌≤◌, ◌<◌, ◌^◌, pos, ◌+ℤ◌, ◌*ℤ◌, length};
+ghost use Rattle.std.specs.Prelude.{◌≡◌, ◌*◌, ◌≤◌, ◌<◌, ◌^◌, length};
 ghost use Rattle.whole.specs.Table.{at};
 ghost use Rattle.whole.specs.Bound.{Are};
-ghost use Rattle.whole.specs.Sum.{sum_ℤ};
 ghost use Rattle.rules.specs.Field.{quadratic, weighted};
-ghost use Rattle.rules.specs.Limiter.{mean_shift, truncated, rescaled, closed_unlevelled, closed};
-ghost use Rattle.rules.specs.Sizes.{shift_size, tentative_size, levelled_size, target_size};
+ghost use Rattle.rules.specs.Limiter.{signed_sum, mean_shift, truncated, clipped, rescaled, closed_unlevelled, closed};
+ghost use Rattle.rules.specs.Sizes.{shift_size, tentative_size, levelled_size, target_size, clipped_size};
 ghost use Rattle.limiter.specs.Sizes.{Tentative, Shift, shifted};
 
 use rules::element::{NODES, node_weight, signed_weight};
@@ -27,53 +26,63 @@ pub struct Closing<'a> {
 }
 
 impl Closing<'_> {
-    // The closing: an element's ten numbers. They are lent as a slice, which document 01 names as the form: "a part of the mutable field slice that
-    // starts at the element's place".
-    pub fn close(self, part: &mut [u32])
+    // The closing: an element's ten numbers, and the clipped mass. The numbers are lent as a slice, which document 01 names as the form: "a part of
+    // the mutable field slice that starts at the element's place".
+    pub fn close(self, part: &mut [u32]) -> u64
         requires { length part.old ≡ 10 }
-        ensures { part.new ≡ closed quadratic (at self.entry.psi.now) self.entry.target }
+        ensures numbers { part.new ≡ (closed quadratic (at self.entry.psi.now) self.entry.target).numbers }
+        ensures clipped { result ≡ (closed quadratic (at self.entry.psi.now) self.entry.target).clipped }
+        ensures upper_bound { result ≤ clipped_size }
     {
+        let sum = self.weighted_sum();
+        let shift = self.mean_shift(sum);
         let raised = Raised {
             closing: self,
-            shift: self.mean_shift(),
+            shift,
+            sum: sum + WEIGHT_SUM * shift,
         };
-        raised.close(part);
+        raised.close(part)
     }
 
     // The closing without levelling.
-    pub fn close_unlevelled(self, part: &mut [u32])
+    pub fn close_unlevelled(self, part: &mut [u32]) -> u64
         requires { length part.old ≡ 10 }
-        ensures { part.new ≡ closed_unlevelled quadratic (at self.entry.psi.now) self.entry.target }
+        ensures numbers { part.new ≡ (closed_unlevelled quadratic (at self.entry.psi.now) self.entry.target).numbers }
+        ensures clipped { result ≡ (closed_unlevelled quadratic (at self.entry.psi.now) self.entry.target).clipped }
+        ensures upper_bound { result ≤ clipped_size }
     {
         let raised = Raised {
             closing: self,
             shift: 0,
+            sum: self.weighted_sum(),
         };
-        raised.close(part);
+        raised.close(part)
     }
 
-    // What levelling adds to every value.
-    fn mean_shift(self) -> i64
+    // What levelling adds to every value, from their weighted sum.
+    fn mean_shift(self, sum: i64) -> i64
+        requires { sum ≡ signed_sum quadratic (at self.psi.now) }
         ensures { Are shift_size result (mean_shift quadratic (at self.entry.psi.now) self.entry.target) }
     {
-        let sum = self.weighted_sum();
         whole::floor_div((self.target as i64) - sum, WEIGHT_SUM)
     }
 
     // The weighted sum of the values.
     fn weighted_sum(self) -> i64
-        ensures { Are (36 * tentative_size) result (sum_ℤ 9 (λ k. pos (quadratic.weight k) *ℤ at self.entry.psi.now k)) }
+        ensures { Are (36 * tentative_size) result (signed_sum quadratic (at self.entry.psi.now)) }
     {
         (0..NODES).map(|k| signed_weight(k) * self.psi[k]).sum()
     }
 }
 
-// A closing whose values are each raised by a shift: what levelling adds, or 0.
+// A closing whose values are each raised by a shift: what levelling adds, or 0. `sum` is the weighted sum of the raised values.
 #[derive(Clone, Copy)]
 struct Raised<'a> {
     closing: Closing<'a>,
     shift: i64,
+    sum: i64,
     ghost small: { Shift shift },
+    ghost sum_is: { sum ≡ signed_sum quadratic (shifted closing.psi.now shift) },
 }
 
 impl Raised<'_> {
@@ -86,20 +95,31 @@ impl Raised<'_> {
         u64::try_from(self.closing.psi[k] + self.shift).unwrap_or(0)
     }
 
-    // The weighted sum P of these values.
-    fn sum(self) -> u64
+    // The weighted sum P of the truncated values.
+    fn truncated_sum(self) -> u64
         ensures { result ≡ weighted quadratic (truncated (shifted self.entry.closing.psi.now self.entry.shift)) }
     {
         (0..NODES).map(|k| node_weight(k) * self.truncated(k)).sum()
     }
 
-    // Truncation, rescaling and remainder.
-    fn close(self, part: &mut [u32])
+    // The clipped mass: P less `sum`. Truncation only adds, so that P is never below it.
+    fn clipped(self, p: u64) -> u64
+        requires { p ≡ weighted quadratic (truncated (shifted self.closing.psi.now self.shift)) }
+        ensures value { result ≡ clipped quadratic (shifted self.entry.closing.psi.now self.entry.shift) }
+        ensures upper_bound { result ≤ clipped_size }
+    {
+        ((p as i64) - self.sum).unsigned_abs()
+    }
+
+    // Truncation, rescaling and remainder; the clipped mass is answered.
+    fn close(self, part: &mut [u32]) -> u64
         requires { length part.old ≡ 10 }
-        ensures { part.new ≡ closed_unlevelled quadratic (shifted self.entry.closing.psi.now self.entry.shift) self.entry.closing.target }
+        ensures numbers { part.new ≡ (closed_unlevelled quadratic (shifted self.entry.closing.psi.now self.entry.shift) self.entry.closing.target).numbers }
+        ensures clipped { result ≡ (closed_unlevelled quadratic (shifted self.entry.closing.psi.now self.entry.shift) self.entry.closing.target).clipped }
+        ensures upper_bound { result ≤ clipped_size }
     {
         let target = self.closing.target;
-        let p = self.sum();
+        let p = self.truncated_sum();
         // Added by hand in the loop that writes: a chain of its own would divide for every value once more.
         let mut sum = 0;
         for (k, number) in part[..NODES].iter_mut().enumerate() {
@@ -108,6 +128,7 @@ impl Raised<'_> {
             sum += node_weight(k) * y;
         }
         part[NODES] = (target - sum) as u32;
+        self.clipped(p)
     }
 }
 

@@ -18,23 +18,24 @@ use Rattle.rules.specs.declared.Way.TheVariants.{East, North}
 use Rattle.std.specs.Prelude.{Result}
 use Rattle.std.specs.Result.{IsErrAnd}
 use Rattle.std.proofs.lemmas.Result.{err_from_is_err_and}
-use Rattle.rules.specs.Answers.{Answer, accepted, refused, plain, number}
+use Rattle.rules.specs.Answers.{Answer, accepted, refused, mapped, number}
 use Rattle.rules.specs.Field.{quadratic, faces, part}
 use Rattle.rules.specs.Grid.{face_index}
 use Rattle.rules.specs.Stages.{stages}
-use Rattle.rules.specs.Step.{tracer_step}
-use Rattle.rules.specs.Calls.{step, lengths_lent, Called, call, wind_at, total_reading, report_after, Reply}
+use Rattle.rules.specs.Step.{Stepped, tracer_step}
+use Rattle.rules.specs.Calls.{step, lengths_lent, Called, call, wind_at, total_reading, report_after, Reply, clipped_mass}
 use Rattle.rules.specs.Program.{grid_line, face_line, face_row, face_lines, total_line, tracer_lines, next, Printed, report_lent, work_lent, stepped, up_to}
+use Rattle.rules.proofs.AnswerLaws.{mapped-refused, mapped-accepted}
 use Rattle.rules.proofs.StepLaws.{report-length}
 use Rattle.text.specs.declared.Text.{Text}
 use Rattle.text.specs.Adds.{Adds, HasRoom}
 use Rattle.text.proofs.AddsLaws.{none-added, wider, then}
 use Rattle.rules.proofs.GridLaws.{face-lt}
 use Rattle.output.specs.AddedLines.{tracer_room, LinesAdded, AddedOrRefused}
-use Rattle.step.proofs.CheckLaws.{stepping, plain-refused, report-accepted}
+use Rattle.step.proofs.CheckLaws.{Stepping, stepping, report-accepted}
 
 -- ---- the lines of a report that stands at the front of a longer buffer
-module _ (g : Shape) (s t : ℕ) (rep old : List ℤ) (size : length rep ≡ faces g) (room : faces g ≤ length old) where
+module _ (g : Shape) (s t n : ℕ) (rep old : List ℤ) (size : length rep ≡ faces g) (room : faces g ≤ length old) where
   value : (way : Way) (i j : ℕ) → i < g.nx → j < g.ny → at (overwrite 0 rep old) (face_index g way i j) ≡ at rep (face_index g way i j)
   value way i j hi hj = ap (at (overwrite 0 rep old)) (sym (zero-add (face_index g way i j))) ∙ overwrite-inside 0 rep old (omega (arith, size)) (pos 0) (face_index g way i j) (omega (arith, size, face-lt g way i j hi hj))
 
@@ -47,9 +48,9 @@ module _ (g : Shape) (s t : ℕ) (rep old : List ℤ) (size : length rep ≡ fac
   unfolding face_lines
   rows way = blocks-cong g.ny (face_row g s way (overwrite 0 rep old)) (face_row g s way rep) (λ j hj. row way j hj)
 
-  pub lines-kept : tracer_lines g s (overwrite 0 rep old) t ≡ tracer_lines g s rep t
+  pub lines-kept : tracer_lines g s (overwrite 0 rep old) t n ≡ tracer_lines g s rep t n
   unfolding tracer_lines
-  lines-kept = λ k. rows East k ++ (rows North k ++ total_line s t)
+  lines-kept = λ k. rows East k ++ (rows North k ++ total_line s t n)
 
 -- ---- one tracer: a step with report and work of these lengths, and then the reading of its total
 module _ (g : Shape) (wind : List ℤ) (s : ℕ) (field : List ℕ) (rl wl : ℕ) (er : rl ≡ report_lent) (ew : wl ≡ work_lent) where
@@ -58,40 +59,51 @@ module _ (g : Shape) (wind : List ℤ) (s : ℕ) (field : List ℕ) (rl wl : ℕ
 
   -- what `stepped` goes on with
   abbrev rest : List ℕ → Reply → Answer Printed
-  rest after r = next (total_reading quadratic g s after) (λ total. accepted (record { text = tracer_lines g s r.report total; field = after }))
+  rest after r = next (total_reading quadratic g s after) (λ total. accepted (record { text = tracer_lines g s r.report total r.clipped; field = after }))
 
   stepped-is : stepped g wind s field ≡ next c.reply (rest c.field)
   unfolding stepped
   stepped-is = λ i. let d = call quadratic g s (step (lengths_lent wind (sym er i) (sym ew i))) field in next d.reply (rest d.field)
 
-  pub step-refused : (n : ℕ) → plain c.reply ≡ refused n → stepped g wind s field ≡ refused n
-  step-refused n e = stepped-is ∙ ap (λ a. next a (rest c.field)) (plain-refused c.reply n e)
+  pub step-refused : (n : ℕ) → clipped_mass c.reply ≡ refused n → stepped g wind s field ≡ refused n
+  step-refused n e = stepped-is ∙ ap (λ a. next a (rest c.field)) (mapped-refused (λ r. r.clipped) c.reply n e)
 
-  module _ (e : plain c.reply ≡ accepted tt) where
-    -- the report of the accepted step
-    abbrev rep : List ℤ
-    rep = (tracer_step quadratic g (wind_at wind) (part quadratic g s field)).report
+  module _ (n : ℕ) (e : clipped_mass c.reply ≡ accepted n) where
+    -- what the accepted step has shown
+    shown : Stepping g s field wind rl wl
+    shown = stepping g s field wind rl wl (mapped-accepted (λ r. r.clipped) c.reply n e)
 
-    answers : stepped g wind s field ≡ rest c.field (record { report = rep })
-    answers = stepped-is ∙ ap (λ a. next a (rest c.field)) (stepping g s field wind rl wl e).answers
+    -- what it leaves and gives; its clipped mass is n
+    abbrev outcome : Stepped
+    outcome = tracer_step quadratic g (wind_at wind) (part quadratic g s field)
+
+    clipped-is : outcome.clipped ≡ n
+    unfolding mapped
+    clipped-is = let q : accepted outcome.clipped ≡ accepted n = sym (ap clipped_mass shown.answers) ∙ e in cc
+
+    -- what is printed, for a total and the field after the step
+    abbrev lines : List ℕ → ℕ → Answer Printed
+    lines after total = accepted (record { text = tracer_lines g s outcome.report total n; field = after })
+
+    answers : (after : List ℕ) → after ≡ c.field → stepped g wind s field ≡ next (total_reading quadratic g s after) (lines after)
+    answers after f = stepped-is ∙ ap (λ a. next a (rest c.field)) shown.answers ∙ (λ i. rest (sym f i) (record { report = outcome.report; clipped = clipped-is i }))
 
     -- the report has room for its lines
     pub reports : faces g ≤ rl
-    reports = (stepping g s field wind rl wl e).reports
+    reports = shown.reports
 
-    pub total-refused : (n : ℕ) (after : List ℕ) → after ≡ c.field → total_reading quadratic g s after ≡ refused n → stepped g wind s field ≡ refused n
-    total-refused n after f q = answers ∙ ap (λ x. rest x (record { report = rep })) (sym f) ∙ ap (λ a. next a (λ total. accepted (record { text = tracer_lines g s rep total; field = after }))) q
+    pub total-refused : (m : ℕ) (after : List ℕ) → after ≡ c.field → total_reading quadratic g s after ≡ refused m → stepped g wind s field ≡ refused m
+    total-refused m after f q = answers after f ∙ ap (λ a. next a (lines after)) q
 
-    pub lines-accepted : (t : ℕ) (after : List ℕ) → after ≡ c.field → total_reading quadratic g s after ≡ accepted t → stepped g wind s field ≡ accepted (record { text = tracer_lines g s rep t; field = after })
-    lines-accepted t after f q = answers ∙ ap (λ x. rest x (record { report = rep })) (sym f) ∙ ap (λ a. next a (λ total. accepted (record { text = tracer_lines g s rep total; field = after }))) q
+    pub lines-accepted : (t : ℕ) (after : List ℕ) → after ≡ c.field → total_reading quadratic g s after ≡ accepted t → stepped g wind s field ≡ lines after t
+    lines-accepted t after f q = answers after f ∙ ap (λ a. next a (lines after)) q
 
     -- the lines that are printed from the report buffer
-    pub lines_are : (t : ℕ) (old new : List ℤ) → new ≡ report_after c.reply old → length old ≡ rl → tracer_lines g s new t ≡ tracer_lines g s rep t
+    pub lines_are : (t : ℕ) (old new : List ℤ) → new ≡ report_after c.reply old → length old ≡ rl → tracer_lines g s new t n ≡ tracer_lines g s outcome.report t n
     unfolding tracer_step
     lines_are t old new q long =
-        let p = stepping g s field wind rl wl e in
-        ap (λ l. tracer_lines g s l t) (q ∙ sym (report-accepted c.reply (record { report = rep }) old p.answers))
-        ∙ lines-kept g s t rep old (report-length quadratic g p.shape.nx-above p.shape.ny-above (wind_at wind) (part quadratic g s field) (stages quadratic g (wind_at wind) (part quadratic g s field))) (omega (arith, long, p.reports))
+        ap (λ l. tracer_lines g s l t n) (q ∙ sym (report-accepted c.reply (record { report = outcome.report; clipped = outcome.clipped }) old shown.answers))
+        ∙ lines-kept g s t n outcome.report old (report-length quadratic g shown.shape.nx-above shown.shape.ny-above (wind_at wind) (part quadratic g s field) (stages quadratic g (wind_at wind) (part quadratic g s field))) (omega (arith, long, reports))
 
 -- ---- all tracers: after the line of the grid, the lines of the first s of them are added
 pub record TracersAdded (g : Shape) (wind : List ℤ) (s : ℕ) (first now' : List ℕ) (old new : Text) : Type 0 where

@@ -34,7 +34,7 @@ module _ (g : Shape) (wind : List ℤ) (field : List ℕ) where
 pub text-fits : (g : Shape) → Admitted g → faces g ≤ 256 → 68 + g.tracers * tracer_room g ≤ 200000
 text-fits g a h =
     let e : g.ny * (g.nx * 96) ≡ elements g * 96 = sym (mul_assoc g.ny g.nx 96) ∙ ap (λ n. n * 96) (mul_comm g.ny g.nx) in
-    let room : tracer_room g ≤ 24624 = omega (arith, e) in
+    let room : tracer_room g ≤ 24645 = omega (arith, e) in
     omega (arith, mul-le-mul_right (tracer_room g) a.tracers-small)
 
 -- the lines of all tracers, or their refusal

@@ -9,7 +9,7 @@ use Rattle.rules.specs.declared.Refusal.{Refusal}
 
 -- the bytes that the lines of one tracer take at most
 abbrev pub tracer_room : Shape → ℕ
-tracer_room g = 2 * (g.ny * (g.nx * 96)) + 48
+tracer_room g = 2 * (g.ny * (g.nx * 96)) + 69
 
 -- lines of at most n bytes are added to the text, and `field` is what the steps have left
 pub record LinesAdded (n : ℕ) (a : Answer Printed) (field : List ℕ) (old new : Text) : Type 0 where

@@ -33,7 +33,7 @@ impl Buffers {
         ensures same_wind { self.new.wind ≡ self.old.wind }
         ensures lines { AddedOrRefused (tracer_room grid.shape) (stepped grid.shape self.old.wind tracer self.old.field) self.new.field text.old text.new result }
     {
-        step::step(
+        let clipped = step::step(
             &mut self.field,
             &self.wind,
             &mut self.report,
@@ -42,7 +42,7 @@ impl Buffers {
             tracer,
         )?;
         let total = field::total_on(&self.field, grid, tracer)?;
-        text_lines::tracer_lines(text, grid, tracer, &self.report, total);
+        text_lines::tracer_lines(text, grid, tracer, &self.report, total, clipped);
         Ok(())
     }
 

@@ -1,5 +1,6 @@
 // Calls for C: numbers and buffers in, a number out. include/plume.h declares them.
-// An answer is 0 where the call is accepted, else the refusal's number; a reading's is its number, or the refusal's number negated.
+// An answer is 0 where the call is accepted, else the refusal's number; of a call that gives a number it is that number, or the refusal's number
+// negated.
 // What each gives is what the call of the library gives, told by these numbers. Shape, element and face are lent number by number, since C has no
 // type of the library's.
 #![tactic(auto)]
@@ -75,7 +76,7 @@ pub extern "C" fn plume_load(
     c_numbers::code(field::load(field, numbers, shape, smoke))
 }
 
-// Emission of q into an element.
+// Emission of q into an element: the clipped mass.
 #[unsafe(no_mangle)]
 pub extern "C" fn plume_emission(
     field: &mut [u32],
@@ -86,14 +87,14 @@ pub extern "C" fn plume_emission(
     i: usize,
     j: usize,
     q: u64,
-) -> u8
-    ensures { CallGives quadratic (shape_of nx ny smokes) smoke (emission i j q) field.old (coded result) field.new }
+) -> i64
+    ensures { CallGives quadratic (shape_of nx ny smokes) smoke (emission i j q) field.old (numbered result) field.new }
 {
     let shape = c_numbers::shape(nx, ny, smokes);
-    c_numbers::code(field::emission(field, shape, smoke, i, j, q))
+    c_numbers::number_or(field::emission(field, shape, smoke, i, j, q))
 }
 
-// Withdrawal of q from an element.
+// Withdrawal of q from an element: the clipped mass.
 #[unsafe(no_mangle)]
 pub extern "C" fn plume_withdrawal(
     field: &mut [u32],
@@ -104,14 +105,14 @@ pub extern "C" fn plume_withdrawal(
     i: usize,
     j: usize,
     q: u64,
-) -> u8
-    ensures { CallGives quadratic (shape_of nx ny smokes) smoke (withdrawal i j q) field.old (coded result) field.new }
+) -> i64
+    ensures { CallGives quadratic (shape_of nx ny smokes) smoke (withdrawal i j q) field.old (numbered result) field.new }
 {
     let shape = c_numbers::shape(nx, ny, smokes);
-    c_numbers::code(field::withdrawal(field, shape, smoke, i, j, q))
+    c_numbers::number_or(field::withdrawal(field, shape, smoke, i, j, q))
 }
 
-// A step of one smoke.
+// A step of one smoke: the clipped mass.
 #[unsafe(no_mangle)]
 pub extern "C" fn plume_step(
     field: &mut [u32],
@@ -122,11 +123,11 @@ pub extern "C" fn plume_step(
     ny: usize,
     smokes: usize,
     smoke: usize,
-) -> u8
-    ensures { StepGives quadratic (shape_of nx ny smokes) smoke field.old wind.now report.old work.old (coded result) field.new report.new work.new }
+) -> i64
+    ensures { StepGives quadratic (shape_of nx ny smokes) smoke field.old wind.now report.old work.old (numbered result) field.new report.new work.new }
 {
     let shape = c_numbers::shape(nx, ny, smokes);
-    c_numbers::code(step::step(field, wind, report, work, shape, smoke))
+    c_numbers::number_or(step::step(field, wind, report, work, shape, smoke))
 }
 
 // What an element holds.

@@ -2,7 +2,7 @@
 use mathlib.Core.Path.{◌≡◌, refl, ap, ◌∙◌}
 use mathlib.Core.Bool.{Bool, true, false, cond}
 use mathlib.Core.List.{List, [], ◌∷◌, ◌++◌}
-use Prim.Native.Nat.{ℕ}
+use Prim.Native.Nat.{ℕ, ◌≤◌}
 use native.Mathlib.Omega.{arith}
 use lib.Dec.{T}
 use Rattle.whole.proofs.Cases.{cond_yes}
@@ -10,7 +10,7 @@ use Rattle.std.specs.Prelude.{Result}
 use Rattle.std.specs.Result.{IsErrAnd}
 use Rattle.std.proofs.lemmas.Result.{err_from_is_err_and}
 use Rattle.rules.specs.declared.Refusal.{Refusal}
-use Rattle.rules.specs.Answers.{Answer, accepted, refused, Check, answer, answered, number, after}
+use Rattle.rules.specs.Answers.{Answer, accepted, refused, Check, answer, answered, number, after, mapped, plain, AtMost}
 
 -- every check of the list is passed
 abbrev pub Passed : List Check → Type 0
@@ -63,6 +63,37 @@ passed-prefix cs ds x ps = prefix-accepted cs ds x x x (passed-accepts cs x ps)
 pub passed-both : (cs ds : List Check) → Passed cs → Passed ds → Passed (cs ++ ds)
 passed-both [] ds ps qs = qs
 passed-both (c ∷ cs) ds ps qs = (ps.0, passed-both cs ds ps.1 qs)
+
+-- ---- an answer of which f is told
+module _ {A B : Type 0} (f : A → B) where
+  pub mapped-answer : (cs : List Check) (x : A) → mapped f (answer cs x) ≡ answer cs (f x)
+  unfolding mapped answer
+  mapped-answer [] x = refl
+  mapped-answer (c ∷ cs) x = go c.passes (mapped-answer cs x)
+    where
+      go : (b : Bool) → mapped f (answer cs x) ≡ answer cs (f x) → mapped f (cond b (answer cs x) (refused c.number)) ≡ cond b (answer cs (f x)) (refused c.number)
+      go true ih = ih
+      go false ih = refl
+
+  pub mapped-refused : (a : Answer A) (n : ℕ) → mapped f a ≡ refused n → a ≡ refused n
+  unfolding mapped
+  mapped-refused (accepted x) n e = let w : ◌≡◌ {A = ℕ} 0 1 = cc in absurd (omega arith)
+  mapped-refused (refused m) n e = cc
+
+  pub mapped-accepted : (a : Answer A) (y : B) → mapped f a ≡ accepted y → plain a ≡ accepted tt
+  unfolding mapped
+  mapped-accepted (accepted x) y e = refl
+  mapped-accepted (refused n) y e = let w : ◌≡◌ {A = ℕ} 0 1 = cc in absurd (omega arith)
+
+-- ---- the bound of an answered number, which a refusal has none of
+pub refused-at-most : {a : Answer ℕ} (m n : ℕ) → a ≡ refused n → AtMost m a
+refused-at-most m n e = record { small = λ k q. let w : ◌≡◌ {A = ℕ} 0 1 = cc in absurd (omega arith) }
+
+pub accepted-at-most : (m n : ℕ) → n ≤ m → AtMost m (accepted n)
+accepted-at-most m n h = record { small = λ k q. let e : n ≡ k = cc in omega arith }
+
+pub answer-at-most : (m n : ℕ) (cs : List Check) → n ≤ m → AtMost m (answer cs n)
+answer-at-most m n cs h = answer-ind (AtMost m) cs n (λ k. refused-at-most m k refl) (λ _. accepted-at-most m n h)
 
 -- ---- what a call leaves, by its answer
 pub after-refused : {A B : Type 0} (a : Answer A) (n : ℕ) (x y : B) → a ≡ refused n → after a x y ≡ y

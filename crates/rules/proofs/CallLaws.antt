@@ -17,7 +17,7 @@ use Rattle.rules.specs.Field.{Kind, elements, element, on_grid, element_length, 
 use Rattle.rules.specs.Limiter.{closing_remainder}
 use Rattle.rules.specs.Stages.{stages}
 use Rattle.rules.specs.Step.{tracer_step}
-use Rattle.rules.specs.Calls.{Operation, load, emission, withdrawal, step, Lent, wind_at, loaded, with_element, emitted, withdrawn, Done, no_report, done, checks}
+use Rattle.rules.specs.Calls.{Operation, load, emission, withdrawal, step, Lent, wind_at, loaded, with_element, emitted, withdrawn, Done, no_report, closed_in, done, checks}
 use Rattle.rules.specs.Ledger.{only, entry}
 use Rattle.rules.proofs.AnswerLaws.{Passed}
 use Rattle.rules.proofs.LimiterLaws.{closed-length, closed-remainder, withdrawal-remainder, truncated-pos}
@@ -34,27 +34,27 @@ on-grid-lt g i j t =
 
 -- ---- the numbers of an element after an emission and after a withdrawal
 module _ (κ : Kind) (e q : ℕ) (p : List ℕ) where
-  pub length-emitted : length (emitted κ e q p) ≡ element_length κ
+  pub length-emitted : length (emitted κ e q p).numbers ≡ element_length κ
   unfolding emitted
   length-emitted = length-closed κ (λ k. pos (cell κ p e k)) (mass κ p e + q)
 
-  held-emitted : held κ (emitted κ e q p) ≡ mass κ p e + q
+  held-emitted : held κ (emitted κ e q p).numbers ≡ mass κ p e + q
   unfolding emitted
   held-emitted = held-closed κ (λ k. pos (cell κ p e k)) (mass κ p e + q)
 
-  remainder-emitted : 0 < weight_sum κ → get_or (emitted κ e q p) κ.nodes 0 < weight_sum κ
+  remainder-emitted : 0 < weight_sum κ → get_or (emitted κ e q p).numbers κ.nodes 0 < weight_sum κ
   unfolding emitted
   remainder-emitted hw = remainder-closed κ (λ k. pos (cell κ p e k)) (mass κ p e + q) hw
 
-  pub length-withdrawn : length (withdrawn κ e q p) ≡ element_length κ
+  pub length-withdrawn : length (withdrawn κ e q p).numbers ≡ element_length κ
   unfolding withdrawn
   length-withdrawn = closed-length κ (λ k. pos (cell κ p e k)) (mass κ p e - q)
 
-  held-withdrawn : held κ (withdrawn κ e q p) ≡ mass κ p e - q
+  held-withdrawn : held κ (withdrawn κ e q p).numbers ≡ mass κ p e - q
   unfolding withdrawn
   held-withdrawn = held-unlevelled κ (λ k. pos (cell κ p e k)) (mass κ p e - q)
 
-  remainder-withdrawn : q ≤ mass κ p e → remainder κ p e < weight_sum κ → get_or (withdrawn κ e q p) κ.nodes 0 < weight_sum κ
+  remainder-withdrawn : q ≤ mass κ p e → remainder κ p e < weight_sum κ → get_or (withdrawn κ e q p).numbers κ.nodes 0 < weight_sum κ
   unfolding withdrawn mass
   remainder-withdrawn b l = subst (λ y. y < weight_sum κ)
       (sym (closed-remainder κ (λ k. pos (cell κ p e k)) (mass κ p e - q) ∙ ap (λ v. closing_remainder κ v (mass κ p e - q)) (truncated-pos (cell κ p e))))
@@ -65,8 +65,8 @@ pub done-length : (κ : Kind) (g : Shape) (hx : 0 < g.nx) (hy : 0 < g.ny) (op : 
     → length (done κ g op p).part ≡ part_length κ g
 unfolding done checks tracer_step
 done-length κ g hx hy (load l) there p h c = length-loaded κ g l
-done-length κ g hx hy (emission i j q) there p h c = length-with_element κ g (element g i j) (emitted κ (element g i j) q p) p (on-grid-lt g i j c.1.1.0) (length-emitted κ (element g i j) q p) h
-done-length κ g hx hy (withdrawal i j q) there p h c = length-with_element κ g (element g i j) (withdrawn κ (element g i j) q p) p (on-grid-lt g i j c.1.1.0) (length-withdrawn κ (element g i j) q p) h
+done-length κ g hx hy (emission i j q) there p h c = length-with_element κ g (element g i j) (emitted κ (element g i j) q p).numbers p (on-grid-lt g i j c.1.1.0) (length-emitted κ (element g i j) q p) h
+done-length κ g hx hy (withdrawal i j q) there p h c = length-with_element κ g (element g i j) (withdrawn κ (element g i j) q p).numbers p (on-grid-lt g i j c.1.1.0) (length-withdrawn κ (element g i j) q p) h
 done-length κ g hx hy (step l) there p h c = length-after κ g hx hy (wind_at l.wind) p (stages κ g (wind_at l.wind) p)
 
 -- what an operation leaves of a part p, and the ledger's line for it
@@ -100,7 +100,7 @@ module _ (κ : Kind) (g : Shape) (e : ℕ) (x p : List ℕ) (he : e < elements g
   }
 
 -- ---- the operations
-load-law : (κ : Kind) (g : Shape) (hw : 0 < weight_sum κ) (l p : List ℕ) → total κ g (loaded κ g l) ≤ limit → Kept κ g (load l) p (record { part = loaded κ g l; reply = no_report })
+load-law : (κ : Kind) (g : Shape) (hw : 0 < weight_sum κ) (l p : List ℕ) → total κ g (loaded κ g l) ≤ limit → Kept κ g (load l) p (record { part = loaded κ g l; reply = no_report 0 })
 unfolding entry
 load-law κ g hw l p b = record {
   good = record { size = length-loaded κ g l; bounded = b; small = λ e h. subst (λ x. x < weight_sum κ) (sym (remainder-loaded κ g l e h)) hw };
@@ -108,12 +108,12 @@ load-law κ g hw l p b = record {
 }
 
 emission-law : (κ : Kind) (g : Shape) (hw : 0 < weight_sum κ) (i j q : ℕ) (p : List ℕ) → Good κ g p → T (on_grid g i j) → total κ g p + q ≤ limit
-    → Kept κ g (emission i j q) p (record { part = with_element κ (element g i j) (emitted κ (element g i j) q p) p; reply = no_report })
+    → Kept κ g (emission i j q) p (closed_in κ g (element g i j) (emitted κ (element g i j) q p) p)
 unfolding entry
 emission-law κ g hw i j q p h on b =
     let e = element g i j in
     let he = on-grid-lt g i j on in
-    let x = emitted κ e q p in
+    let x = (emitted κ e q p).numbers in
     let width = length-emitted κ e q p in
     let small = remainder-emitted κ e q p hw in
     let holds = ap pos (held-emitted κ e q p) in
@@ -127,12 +127,12 @@ sub-le : (m n q : ℕ) → pos n ≡ pos m -ℤ pos q → n ≤ m
 sub-le m n q e = omega (arith, ap positive e, ap negative e, positive-pos n, negative-pos n, sub-parts-of (pos m) (pos q), positive-pos m, negative-pos m, positive-pos q, negative-pos q)
 
 withdrawal-law : (κ : Kind) (g : Shape) (i j q : ℕ) (p : List ℕ) → Good κ g p → T (on_grid g i j) → q ≤ mass κ p (element g i j)
-    → Kept κ g (withdrawal i j q) p (record { part = with_element κ (element g i j) (withdrawn κ (element g i j) q p) p; reply = no_report })
+    → Kept κ g (withdrawal i j q) p (closed_in κ g (element g i j) (withdrawn κ (element g i j) q p) p)
 unfolding entry
 withdrawal-law κ g i j q p h on b =
     let e = element g i j in
     let he = on-grid-lt g i j on in
-    let x = withdrawn κ e q p in
+    let x = (withdrawn κ e q p).numbers in
     let width = length-withdrawn κ e q p in
     let small = remainder-withdrawn κ e q p b (h.small e he) in
     let holds = ap pos (held-withdrawn κ e q p) ∙ sub-pos (mass κ p e) q b in

@@ -6,9 +6,9 @@ use Prim.Native.Nat.{ℕ}
 use lib.IntN.{ℤ}
 use lib.ListN.{drop}
 use Rattle.rules.specs.declared.Shape.{Shape}
-use Rattle.rules.specs.Answers.{Answer, accepted, refused, plain}
+use Rattle.rules.specs.Answers.{Answer, accepted, refused, mapped}
 use Rattle.rules.specs.Field.{Kind, work_needed}
-use Rattle.rules.specs.Calls.{WindCall, Operation, Lent, lent, step, Reply, call, fresh_reply, fresh_field, fresh_wind, wind_reply, wind_after, report_after, WorkAfter, CallGives, StepGives, FreshGives, WindGives}
+use Rattle.rules.specs.Calls.{WindCall, Operation, Lent, lent, step, Reply, Told, tell, clipped_mass, call, fresh_reply, fresh_field, fresh_wind, wind_reply, wind_after, report_after, WorkAfter, CallGives, StepGives, FreshGives, WindGives}
 use Rattle.rules.specs.FieldFile.{read_reply, read_field, read_wind, write_reply, write_file, ReadGives, WriteGives}
 use Rattle.rules.specs.Map.{map_reading, map_page, MapGives}
 
@@ -29,20 +29,20 @@ surplus g (accepted r) work x y p q = both p.1 q.1
 surplus g (refused n) work x y p q = ap (drop (work_needed g)) (both p q)
 
 module _ (κ : Kind) (g : Shape) (s : ℕ) (field : List ℕ) where
-  call-some : (op : Operation Lent) → CallGives κ g s op field (is (plain (call κ g s op field).reply)) (call κ g s op field).field
+  call-some : (op : Operation Lent) → CallGives κ g s op field (is (mapped (tell op) (call κ g s op field).reply)) (call κ g s op field).field
   call-some op = (refl, refl)
 
-  call-one : (op : Operation Lent) (a b : Answer (Unit {0})) (x y : List ℕ) → CallGives κ g s op field (is a) x → CallGives κ g s op field (is b) y → (a ≡ b) × (x ≡ y)
+  call-one : (op : Operation Lent) (a b : Answer (Told op)) (x y : List ℕ) → CallGives κ g s op field (is a) x → CallGives κ g s op field (is b) y → (a ≡ b) × (x ≡ y)
   call-one op a b x y p q = (both p.0 q.0, both p.1 q.1)
 
   module _ (wind report work : List ℤ) where
     abbrev op : Operation Lent
     op = step (lent wind report work)
 
-    step-some : StepGives κ g s field wind report work (is (plain (call κ g s op field).reply)) (call κ g s op field).field (report_after (call κ g s op field).reply report) work
+    step-some : StepGives κ g s field wind report work (is (clipped_mass (call κ g s op field).reply)) (call κ g s op field).field (report_after (call κ g s op field).reply report) work
     step-some = (refl, (refl, (refl, same-work g (call κ g s op field).reply work)))
 
-    step-one : (a b : Answer (Unit {0})) (x y : List ℕ) (r t w v : List ℤ) → StepGives κ g s field wind report work (is a) x r w → StepGives κ g s field wind report work (is b) y t v
+    step-one : (a b : Answer ℕ) (x y : List ℕ) (r t w v : List ℤ) → StepGives κ g s field wind report work (is a) x r w → StepGives κ g s field wind report work (is b) y t v
         → (a ≡ b) × ((x ≡ y) × ((r ≡ t) × (drop (work_needed g) w ≡ drop (work_needed g) v)))
     step-one a b x y r t w v p q =
         (both p.0 q.0, (both p.1.0 q.1.0, (both p.1.1.0 q.1.1.0, surplus g (call κ g s op field).reply work w v p.1.1.1 q.1.1.1)))

@@ -2,6 +2,7 @@
 pub mod ShapeLaws
 pub mod RescalingLaws
 pub mod LimiterLaws
+pub mod ClippedLaws
 pub mod GridLaws
 pub mod CorrectionLaws
 pub mod PartLaws

@@ -9,13 +9,13 @@ use lib.ListN.{length, get_or, length-append, get_or-append}
 use lib.Seq.{get_or_at}
 use Rattle.whole.specs.Bound.{floor_div}
 use Rattle.whole.specs.Parts.{positive, negative}
-use Rattle.whole.specs.Sum.{sum, sum_ℤ}
+use Rattle.whole.specs.Sum.{sum}
 use Rattle.whole.specs.Table.{table}
 use Rattle.whole.proofs.WholeLaws.{positive-pos, negative-pos, add_parts, sub-parts-of, floor-above}
 use Rattle.whole.proofs.SumLaws.{sum-le, sum-cong, sum-add, sum-mul-right, weighted-parts, term-le, sum_ℤ-cong}
 use Rattle.whole.proofs.TableLaws.{length-table, get_d-table, table-cong}
 use Rattle.rules.specs.Field.{Kind, weight_sum, weighted, element_length}
-use Rattle.rules.specs.Limiter.{mean_shift, adjusted, truncated, rescaled, rescaled_value, closing_remainder, closed_unlevelled, closed}
+use Rattle.rules.specs.Limiter.{signed_sum, mean_shift, adjusted, truncated, clipped, rescaled, rescaled_value, closing_remainder, closed_unlevelled, closed}
 use Rattle.rules.proofs.RescalingLaws.{rescaled-le, rescaled-near}
 
 -- one node or more, with positive weights, sum to more than 0
@@ -50,7 +50,7 @@ module _ (κ : Kind) (ψ : ℕ → ℤ) (t : ℕ) (hw : 0 < weight_sum κ) where
   adjusted-near =
       let n = κ.nodes in
       let w = κ.weight in
-      let s : ℤ = sum_ℤ n (λ k. pos (w k) *ℤ ψ k) in
+      let s : ℤ = signed_sum κ ψ in
       let l : ℤ = mean_shift κ ψ t in
       let up : ℕ → ℕ = λ k. w k * positive (ψ k) in
       let down : ℕ → ℕ = λ k. w k * negative (ψ k) in
@@ -89,27 +89,27 @@ module _ (κ : Kind) (ψ : ℕ → ℤ) (t : ℕ) where
   abbrev values : ℕ → ℕ
   values = rescaled_value κ (truncated ψ) t
 
-  pub closed-length : length (closed_unlevelled κ ψ t) ≡ element_length κ
+  pub closed-length : length (closed_unlevelled κ ψ t).numbers ≡ element_length κ
   unfolding closed_unlevelled element_length
   closed-length = length-append (table κ.nodes values) (closing_remainder κ (truncated ψ) t ∷ []) ∙ omega (arith, length-table κ.nodes values)
 
-  pub closed-value : (k : ℕ) → k < κ.nodes → get_or (closed_unlevelled κ ψ t) k 0 ≡ values k
+  pub closed-value : (k : ℕ) → k < κ.nodes → get_or (closed_unlevelled κ ψ t).numbers k 0 ≡ values k
   unfolding closed_unlevelled
   closed-value k h = get_or-append (table κ.nodes values) (closing_remainder κ (truncated ψ) t ∷ []) 0 k (omega (arith, length-table κ.nodes values))
       ∙ get_d-table κ.nodes values k 0 h
 
-  pub closed-remainder : get_or (closed_unlevelled κ ψ t) κ.nodes 0 ≡ closing_remainder κ (truncated ψ) t
+  pub closed-remainder : get_or (closed_unlevelled κ ψ t).numbers κ.nodes 0 ≡ closing_remainder κ (truncated ψ) t
   unfolding closed_unlevelled
   closed-remainder = get_or_at (table κ.nodes values) (closing_remainder κ (truncated ψ) t) [] 0 κ.nodes (length-table κ.nodes values)
 
   -- the list holds T
-  pub closed-holds : weighted κ (λ k. get_or (closed_unlevelled κ ψ t) k 0) + get_or (closed_unlevelled κ ψ t) κ.nodes 0 ≡ t
+  pub closed-holds : weighted κ (λ k. get_or (closed_unlevelled κ ψ t).numbers k 0) + get_or (closed_unlevelled κ ψ t).numbers κ.nodes 0 ≡ t
   unfolding weighted
   closed-holds = omega (
     arith,
     closed-remainder,
     closing-sum κ (truncated ψ) t,
-    sum-cong κ.nodes (λ k. κ.weight k * get_or (closed_unlevelled κ ψ t) k 0) (λ k. κ.weight k * values k) (λ k h. ap (λ x. κ.weight k * x) (closed-value k h)),
+    sum-cong κ.nodes (λ k. κ.weight k * get_or (closed_unlevelled κ ψ t).numbers k 0) (λ k. κ.weight k * values k) (λ k h. ap (λ x. κ.weight k * x) (closed-value k h)),
   )
 
 -- ---- the closing reads its nodes only
@@ -122,16 +122,26 @@ module _ (κ : Kind) where
   unfolding rescaled_value
   values-cong v w t h k l = λ i. rescaled (weighted-cong v w h i) t (h k l i)
 
+  module _ (ψ χ : ℕ → ℤ) (h : (k : ℕ) → k < κ.nodes → ψ k ≡ χ k) where
+    signed_sum-cong : signed_sum κ ψ ≡ signed_sum κ χ
+    signed_sum-cong = sum_ℤ-cong κ.nodes (λ k. pos (κ.weight k) *ℤ ψ k) (λ k. pos (κ.weight k) *ℤ χ k) (λ k l. ap (λ x. pos (κ.weight k) *ℤ x) (h k l))
+
+    truncated-cong : (k : ℕ) → k < κ.nodes → truncated ψ k ≡ truncated χ k
+    unfolding truncated
+    truncated-cong k l = ap positive (h k l)
+
   pub unlevelled-cong : (ψ χ : ℕ → ℤ) (t : ℕ) → ((k : ℕ) → k < κ.nodes → ψ k ≡ χ k) → closed_unlevelled κ ψ t ≡ closed_unlevelled κ χ t
-  unfolding closed_unlevelled closing_remainder truncated
+  unfolding closed_unlevelled closing_remainder clipped
   unlevelled-cong ψ χ t h =
-      let cut : (k : ℕ) → k < κ.nodes → truncated ψ k ≡ truncated χ k = λ k l. ap positive (h k l) in
-      λ i. table-cong κ.nodes (rescaled_value κ (truncated ψ) t) (rescaled_value κ (truncated χ) t) (values-cong (truncated ψ) (truncated χ) t cut) i
-      ++ ((t - weighted-cong (rescaled_value κ (truncated ψ) t) (rescaled_value κ (truncated χ) t) (values-cong (truncated ψ) (truncated χ) t cut) i) ∷ [])
+      let v = rescaled_value κ (truncated ψ) t in
+      let w = rescaled_value κ (truncated χ) t in
+      let cut = truncated-cong ψ χ h in
+      let same = values-cong (truncated ψ) (truncated χ) t cut in
+      λ i. record {
+        numbers = table-cong κ.nodes v w same i ++ ((t - weighted-cong v w same i) ∷ []);
+        clipped = positive (pos (weighted-cong (truncated ψ) (truncated χ) cut i) -ℤ signed_sum-cong ψ χ h i);
+      }
 
   pub closed-cong : (ψ χ : ℕ → ℤ) (t : ℕ) → ((k : ℕ) → k < κ.nodes → ψ k ≡ χ k) → closed κ ψ t ≡ closed κ χ t
   unfolding closed adjusted mean_shift
-  closed-cong ψ χ t h = unlevelled-cong (adjusted κ ψ t) (adjusted κ χ t) t (λ k l. λ i. h k l i +ℤ floor_div (pos t -ℤ sums i) (weight_sum κ))
-    where
-      sums : sum_ℤ κ.nodes (λ k. pos (κ.weight k) *ℤ ψ k) ≡ sum_ℤ κ.nodes (λ k. pos (κ.weight k) *ℤ χ k)
-      sums = sum_ℤ-cong κ.nodes (λ k. pos (κ.weight k) *ℤ ψ k) (λ k. pos (κ.weight k) *ℤ χ k) (λ k l. ap (λ x. pos (κ.weight k) *ℤ x) (h k l))
+  closed-cong ψ χ t h = unlevelled-cong (adjusted κ ψ t) (adjusted κ χ t) t (λ k l. λ i. h k l i +ℤ floor_div (pos t -ℤ signed_sum-cong ψ χ h i) (weight_sum κ))

@@ -14,7 +14,7 @@ use Rattle.whole.specs.Table.{table}
 use Rattle.rules.specs.declared.Shape.{Shape}
 use Rattle.rules.specs.Field.{quadratic, weight_sum, weighted, north_face}
 use Rattle.rules.specs.Grid.{east, west, north, behind, ahead}
-use Rattle.rules.specs.Limiter.{mean_shift, adjusted, truncated, rescaled, rescaled_value, closing_remainder, closed_unlevelled, closed}
+use Rattle.rules.specs.Limiter.{mean_shift, adjusted, truncated, clipped, rescaled, rescaled_value, closing_remainder, closed_unlevelled, closed}
 use Rattle.rules.specs.Stages.{flux_of}
 use Rattle.rules.specs.Correction.{donor, outflow, with_sign, cut, limited_flux}
 
@@ -26,7 +26,7 @@ pub data Question : Type 0 where
   -- a face of this wind and this sum: its flux; and the donor of the flux, 0 for the element west of it and 1 for the one east
   amount : ℤ → ℤ → Question
   donor_for : ℤ → ℤ → Question
-  -- these ψ and this T: what levelling adds, the weighted sum P after truncation, then the closed element
+  -- these ψ and this T: what levelling adds, the weighted sum P after truncation, then the closed element and its clipped mass
   closing : List ℤ → ℕ → Question
 
 abbrev grid : Shape
@@ -48,7 +48,7 @@ answered (amount c s) = flux_of quadratic c s ∷ []
 answered (donor_for c s) = pos (donor grid (λ f. flux_of quadratic c s) 0) ∷ []
 answered (closing ψ t) =
     let values : ℕ → ℤ = λ k. get_or ψ k (pos 0) in
-    mean_shift quadratic values t ∷ pos (weighted quadratic (truncated (adjusted quadratic values t))) ∷ map pos (closed quadratic values t)
+    mean_shift quadratic values t ∷ pos (weighted quadratic (truncated (adjusted quadratic values t))) ∷ map pos (closed quadratic values t).numbers ++ (pos (closed quadratic values t).clipped ∷ [])
 
 pub record Case : Type 0 where
   pub question : Question
@@ -61,9 +61,9 @@ row q a = record { question = q; expected = a }
 nine : ℤ → ℤ → ℤ → ℤ → List ℤ
 nine first corner edge centre = first ∷ edge ∷ corner ∷ edge ∷ centre ∷ edge ∷ corner ∷ edge ∷ corner ∷ []
 
--- nine equal values and a remainder
+-- nine equal values and a remainder, and nothing clipped
 alike : ℕ → ℕ → List ℤ
-alike v r = replicate 9 (pos v) ++ (pos r ∷ [])
+alike v r = replicate 9 (pos v) ++ (pos r ∷ pos 0 ∷ [])
 
 pub cases : List Case
 unfolding row nine alike
@@ -81,10 +81,12 @@ cases =
     -- "Sum −4097, C = 1: G = −1, donor the east element."
     ∷ row (amount (pos 1) (negsuc 4096)) (negsuc 0 ∷ [])
     ∷ row (donor_for (pos 1) (negsuc 4096)) (pos 1 ∷ [])
+    -- Document 02, 2026-04, has no figures for these; by hand: 160 − 100 = 60, and 32 − (32 − 12 − 16) = 28, where edges are levelled to −1 and
+    -- corners to −3.
     -- "Closing, ψ centre 10, one corner −60, others 0, T = 100: P = 160, centre 6, ρ = 4."
-    ∷ row (closing (nine (negsuc 59) (pos 0) (pos 0) (pos 10)) 100) (pos 0 ∷ pos 160 ∷ nine (pos 0) (pos 0) (pos 0) (pos 6) ++ (pos 4 ∷ []))
+    ∷ row (closing (nine (negsuc 59) (pos 0) (pos 0) (pos 10)) 100) (pos 0 ∷ pos 160 ∷ nine (pos 0) (pos 0) (pos 0) (pos 6) ++ (pos 4 ∷ pos 60 ∷ []))
     -- "Centre 3, corners −2, edges 0, T = 36: levelled by −1, P = 32, centre 2, others 0, ρ = 4."
-    ∷ row (closing (nine (negsuc 1) (negsuc 1) (pos 0) (pos 3)) 36) (negsuc 0 ∷ pos 32 ∷ nine (pos 0) (pos 0) (pos 0) (pos 2) ++ (pos 4 ∷ []))
+    ∷ row (closing (nine (negsuc 1) (negsuc 1) (pos 0) (pos 3)) 36) (negsuc 0 ∷ pos 32 ∷ nine (pos 0) (pos 0) (pos 0) (pos 2) ++ (pos 4 ∷ pos 28 ∷ []))
     -- "ψ all 0: T = 35 gives ρ = 35; T = 36 gives all 1, ρ = 0. ψ all −5, T = 0: all 0."
     ∷ row (closing (replicate 9 (pos 0)) 35) (pos 0 ∷ pos 0 ∷ alike 0 35)
     ∷ row (closing (replicate 9 (pos 0)) 36) (pos 1 ∷ pos 36 ∷ alike 1 0)
@@ -93,5 +95,5 @@ cases =
 
 pub marked-cases : map (λ c. answered c.question) cases ≡ map (λ c. c.expected) cases
 unfolding cases row nine alike answered cut-sevens sevens limited_flux donor outflow cut with_sign rescaled behind ahead east west north flux_of nearest nearest_natural quadratic weight_sum weighted
-    closed closed_unlevelled adjusted mean_shift truncated rescaled_value closing_remainder positive sum sum_ℤ table
+    closed closed_unlevelled clipped adjusted mean_shift truncated rescaled_value closing_remainder positive sum sum_ℤ table
 marked-cases = refl

@@ -8,9 +8,9 @@ use native.Mathlib.Omega.{arith}
 use lib.Dec.{eqb}
 use lib.IntN.{ℤ, pos, nat_abs, ◌+ℤ◌, ◌-ℤ◌}
 use lib.ListN.{length, get_or}
-use Rattle.whole.specs.Parts.{positive, negative}
+use Rattle.whole.specs.Parts.{negative}
 use Rattle.whole.specs.Sum.{sum_ℤ}
-use Rattle.whole.specs.Table.{table}
+use Rattle.whole.specs.Table.{table, blocks}
 use Rattle.whole.proofs.WholeLaws.{pos-positive, pos-injective}
 use Rattle.whole.proofs.SumLaws.{sum_ℤ-cong}
 use Rattle.whole.proofs.TableLaws.{length-table, get_d-table, length-blocks}
@@ -21,7 +21,7 @@ use Rattle.rules.specs.Limiter.{closed, closed_unlevelled, adjusted}
 use Rattle.rules.specs.Grid.{behind, ahead}
 use Rattle.rules.specs.Stages.{Stages, flux}
 use Rattle.rules.specs.Correction.{donor, outflow, limited_flux, cut, target}
-use Rattle.rules.specs.Step.{report, finish}
+use Rattle.rules.specs.Step.{report, target_mass, finish}
 use Rattle.rules.specs.Ledger.{only, carried}
 use Rattle.rules.proofs.LimiterLaws.{closed-length, closed-remainder, closed-holds, levelled-remainder}
 use Rattle.rules.proofs.GridLaws.{moved, target_is, behind-lt, ahead-lt}
@@ -30,19 +30,19 @@ use Rattle.rules.proofs.PartLaws.{Good, held, mass-blocks, remainder-blocks, mas
 use Rattle.rules.proofs.LedgerLaws.{carried-sum, carried_keeps}
 
 -- a closed element holds its target
-pub held-unlevelled : (κ : Kind) (ψ : ℕ → ℤ) (t : ℕ) → held κ (closed_unlevelled κ ψ t) ≡ t
+pub held-unlevelled : (κ : Kind) (ψ : ℕ → ℤ) (t : ℕ) → held κ (closed_unlevelled κ ψ t).numbers ≡ t
 unfolding held
 held-unlevelled κ ψ t = closed-holds κ ψ t
 
-pub held-closed : (κ : Kind) (ψ : ℕ → ℤ) (t : ℕ) → held κ (closed κ ψ t) ≡ t
+pub held-closed : (κ : Kind) (ψ : ℕ → ℤ) (t : ℕ) → held κ (closed κ ψ t).numbers ≡ t
 unfolding closed
 held-closed κ ψ t = held-unlevelled κ (adjusted κ ψ t) t
 
-pub length-closed : (κ : Kind) (ψ : ℕ → ℤ) (t : ℕ) → length (closed κ ψ t) ≡ element_length κ
+pub length-closed : (κ : Kind) (ψ : ℕ → ℤ) (t : ℕ) → length (closed κ ψ t).numbers ≡ element_length κ
 unfolding closed
 length-closed κ ψ t = closed-length κ (adjusted κ ψ t) t
 
-pub remainder-closed : (κ : Kind) (ψ : ℕ → ℤ) (t : ℕ) → 0 < weight_sum κ → get_or (closed κ ψ t) κ.nodes 0 < weight_sum κ
+pub remainder-closed : (κ : Kind) (ψ : ℕ → ℤ) (t : ℕ) → 0 < weight_sum κ → get_or (closed κ ψ t).numbers κ.nodes 0 < weight_sum κ
 unfolding closed
 remainder-closed κ ψ t hw = subst (λ x. x < weight_sum κ) (sym (closed-remainder κ (adjusted κ ψ t) t)) (levelled-remainder κ ψ t hw)
 
@@ -86,22 +86,22 @@ module _ (κ : Kind) (g : Shape) (hx : 0 < g.nx) (hy : 0 < g.ny) (c : ℕ → �
       ∙ target-negative g (mass κ p) fluxes hx hy e h
 
   abbrev goal : ℕ → ℕ
-  goal e = positive (target g (mass κ p) r e)
+  goal = target_mass κ g p (report κ g c p s)
 
   abbrev after : List ℕ
-  after = finish κ g p s (report κ g c p s)
+  after = blocks (elements g) (λ e. (finish κ g p s (report κ g c p s) e).numbers)
 
   pub mass-after : (e : ℕ) → e < elements g → mass κ after e ≡ goal e
   unfolding finish
-  mass-after e h = mass-blocks κ (elements g) (λ e. closed κ (s.ψ e) (goal e)) (λ e. length-closed κ (s.ψ e) (goal e)) e h ∙ held-closed κ (s.ψ e) (goal e)
+  mass-after e h = mass-blocks κ (elements g) (λ e. (closed κ (s.ψ e) (goal e)).numbers) (λ e. length-closed κ (s.ψ e) (goal e)) e h ∙ held-closed κ (s.ψ e) (goal e)
 
   pub length-after : length after ≡ part_length κ g
   unfolding finish part_length
-  length-after = length-blocks (element_length κ) (λ e. closed κ (s.ψ e) (goal e)) (λ e. length-closed κ (s.ψ e) (goal e)) (elements g)
+  length-after = length-blocks (element_length κ) (λ e. (closed κ (s.ψ e) (goal e)).numbers) (λ e. length-closed κ (s.ψ e) (goal e)) (elements g)
 
   remainder-after : 0 < weight_sum κ → (e : ℕ) → e < elements g → remainder κ after e < weight_sum κ
   unfolding finish
-  remainder-after hw e h = subst (λ x. x < weight_sum κ) (sym (remainder-blocks κ (elements g) (λ e. closed κ (s.ψ e) (goal e)) (λ e. length-closed κ (s.ψ e) (goal e)) e h))
+  remainder-after hw e h = subst (λ x. x < weight_sum κ) (sym (remainder-blocks κ (elements g) (λ e. (closed κ (s.ψ e) (goal e)).numbers) (λ e. length-closed κ (s.ψ e) (goal e)) e h))
       (remainder-closed κ (s.ψ e) (goal e) hw)
 
   -- the ledger, going through the report, agrees

@@ -1,5 +1,5 @@
 -- Document 01, "Who meets which refusal": how checks make an answer, and the number of each refusal.
-use Rattle.std.specs.Prelude.{◌≡◌, Bool, true, ◌&&◌, cond, List, [], ◌∷◌, ℕ, ltb, Result, Ok, Err}
+use Rattle.std.specs.Prelude.{◌≡◌, Bool, true, ◌&&◌, cond, List, [], ◌∷◌, ℕ, ◌≤◌, ltb, Result, Ok, Err}
 use Rattle.rules.specs.declared.Refusal.{Refusal}
 use Rattle.rules.specs.declared.Refusal.TheVariants.{NoFieldFile, BadShape, BadOffsets, ShortBuffer, WindOutOfRange, UnsoundTracer, NoSuchTracer, NoSuchElement, TotalAboveLimit, MassTooSmall, BrokenRecords, NotFinite}
 
@@ -33,10 +33,18 @@ unfoldable pub after : {A B : Type 0} → Answer A → B → B → B
 after (accepted x) new old = new
 after (refused n) new old = old
 
+-- an accepted answer with f of what it held; a refusal as it is
+unfoldable pub mapped : {A B : Type 0} → (A → B) → Answer A → Answer B
+mapped f (accepted x) = accepted (f x)
+mapped f (refused n) = refused n
+
 -- whether a call was accepted, and nothing else of its answer
-unfoldable pub plain : {A : Type 0} → Answer A → Answer (Unit {0})
-plain (accepted x) = accepted tt
-plain (refused n) = refused n
+abbrev pub plain : {A : Type 0} → Answer A → Answer (Unit {0})
+plain a = mapped (λ x. tt) a
+
+-- an answered number is at most m
+pub record AtMost (m : ℕ) (a : Answer ℕ) : Type 0 where
+  pub small : (n : ℕ) → a ≡ accepted n → n ≤ m
 
 -- ---- each case of an answer, in the paper's numbers and values
 abbrev pub number : Refusal → ℕ

@@ -1,5 +1,5 @@
--- Document 01, "Calls on a field" and "Who meets which refusal", and the import of document 02, 2026-01: what each call answers, and what it leaves
--- in its buffers.
+-- Document 01, "Calls on a field" and "Who meets which refusal", and of document 02 the import of 2026-01 and the clipped mass of 2026-04: what each
+-- call answers, and what it leaves in its buffers.
 use Rattle.std.specs.Prelude.{◌≡◌, Bool, ◌&&◌, ℕ, ◌+◌, ◌*◌, ◌-◌, leb, ltb, ℤ, length, get_or, replicate, drop}
 use Rattle.std.proofs.Math.Bool.{true, cond}
 use mathlib.Core.List.{List, [], ◌∷◌, ◌++◌}
@@ -9,10 +9,10 @@ use Rattle.whole.specs.Sum.{all}
 use Rattle.whole.specs.Table.{table, blocks, overwrite}
 use Rattle.rules.specs.declared.Shape.{Shape}
 use Rattle.rules.specs.declared.Face.{Face}
-use Rattle.rules.specs.Answers.{Answer, accepted, refused, Check, check, answer, after, plain}
+use Rattle.rules.specs.Answers.{Answer, accepted, refused, Check, check, answer, after, mapped}
 use Rattle.rules.specs.Field.{Kind, admitted, elements, faces, work_needed, element, on_grid, element_length, field_length, part, with_part, cell, mass, total, limit, sound, wind_in_range}
 use Rattle.rules.specs.WindRecords.{all_record_checks, record_winds}
-use Rattle.rules.specs.Limiter.{closed, closed_unlevelled}
+use Rattle.rules.specs.Limiter.{Closed, closed, closed_unlevelled}
 use Rattle.rules.specs.Grid.{face_index}
 use Rattle.rules.specs.Step.{tracer_step}
 
@@ -53,12 +53,33 @@ lengths_lent wind report work = record { wind = wind; report_length = report; wo
 abbrev pub lent : List ℤ → List ℤ → List ℤ → Lent
 lent wind report work = lengths_lent wind (length report) (length work)
 
--- what an accepted call answers beside that: "An accepted step's answer there includes the report as that step left it"; others have none
+-- what an accepted call answers beside that: "An accepted step's answer there includes the report as that step left it", others have none; and the
+-- clipped mass of a step, an emission or a withdrawal (document 02, 2026-04), others clip nothing
 pub record Reply : Type 0 where
   pub report : List ℤ
+  pub clipped : ℕ
 
-abbrev pub no_report : Reply
-no_report = record { report = [] }
+abbrev pub no_report : ℕ → Reply
+no_report clipped = record { report = []; clipped = clipped }
+
+-- the clipped mass alone
+abbrev pub clipped_mass : Answer Reply → Answer ℕ
+clipped_mass a = mapped (λ r. r.clipped) a
+
+-- What the caller is told of an accepted call's reply: a load "answers only that it was accepted"; an emission, a withdrawal and a step give the
+-- clipped mass, document 02, 2026-04: "A step gives the sum of this over its elements, in its result. Emission and withdrawal pass on their
+-- closing's figure". A report is in a buffer of the caller's.
+abbrev pub Told : {A : Type 0} → Operation A → Type 0
+Told (load numbers) = Unit {0}
+Told (emission i j q) = ℕ
+Told (withdrawal i j q) = ℕ
+Told (step l) = ℕ
+
+abbrev pub tell : {A : Type 0} (op : Operation A) → Reply → Told op
+tell (load numbers) r = tt
+tell (emission i j q) r = r.clipped
+tell (withdrawal i j q) r = r.clipped
+tell (step l) r = r.clipped
 
 -- what an accepted operation leaves: the tracer's part, and the call's reply
 pub record Done : Type 0 where
@@ -85,13 +106,13 @@ module _ (κ : Kind) where
   unfolding overwrite element_length
   with_element e numbers p = overwrite (e * element_length κ) numbers p
 
-  -- the numbers of element e after an emission of q: "closing with ψ = φ, T = M + q"
-  unfoldable pub emitted : ℕ → ℕ → List ℕ → List ℕ
+  -- element e after an emission of q: "closing with ψ = φ, T = M + q"
+  unfoldable pub emitted : ℕ → ℕ → List ℕ → Closed
   unfolding closed mass cell
   emitted e q p = closed κ (λ k. pos (cell κ p e k)) (mass κ p e + q)
 
   -- and after a withdrawal of q: "T = M − q, closing without levelling". Check 10 has shown that q is at most M
-  unfoldable pub withdrawn : ℕ → ℕ → List ℕ → List ℕ
+  unfoldable pub withdrawn : ℕ → ℕ → List ℕ → Closed
   unfolding closed_unlevelled mass cell
   withdrawn e q p = closed_unlevelled κ (λ k. pos (cell κ p e k)) (mass κ p e - q)
 
@@ -101,15 +122,19 @@ module _ (κ : Kind) (g : Shape) where
   unfolding loaded_element blocks
   loaded numbers = blocks (elements g) (loaded_element κ numbers)
 
+  -- element e of a part replaced by what its closing gives: "Emission and withdrawal pass on their closing's figure"
+  abbrev pub closed_in : ℕ → Closed → List ℕ → Done
+  closed_in e c p = record { part = with_element κ e c.numbers p; reply = no_report c.clipped }
+
   -- an accepted operation on a tracer's part
   unfoldable pub done : Operation Lent → List ℕ → Done
   unfolding loaded with_element emitted withdrawn tracer_step
-  done (load numbers) p = record { part = loaded numbers; reply = no_report }
-  done (emission i j q) p = record { part = with_element κ (element g i j) (emitted κ (element g i j) q p) p; reply = no_report }
-  done (withdrawal i j q) p = record { part = with_element κ (element g i j) (withdrawn κ (element g i j) q p) p; reply = no_report }
+  done (load numbers) p = record { part = loaded numbers; reply = no_report 0 }
+  done (emission i j q) p = closed_in (element g i j) (emitted κ (element g i j) q p) p
+  done (withdrawal i j q) p = closed_in (element g i j) (withdrawn κ (element g i j) q p) p
   done (step l) p =
       let d = tracer_step κ g (wind_at l.wind) p in
-      record { part = d.part; reply = record { report = d.report } }
+      record { part = d.part; reply = record { report = d.report; clipped = d.clipped } }
 
   -- 4, "a lent slice is shorter than needed", of what an operation is lent beside the field
   unfoldable pub lent_enough : Operation Lent → Bool
@@ -217,6 +242,7 @@ module _ (g : Shape) where
 -- ---- what each call gives: what is told of its answer, and every buffer that it was lent for writing, at exit, from what all its buffers
 -- held at entry. The contracts of the code cite these, and so do the theorems over rows of calls.
 -- What is told: the answer itself (`answers`), or, for C, its number.
+
 -- the report buffer after a step: the report written over its front, "Surplus is left alone"
 unfoldable pub report_after : Answer Reply → List ℤ → List ℤ
 unfolding overwrite
@@ -231,14 +257,14 @@ WorkAfter g (refused n) old new = new ≡ old
 
 module _ (κ : Kind) (g : Shape) where
   -- a call on tracer s
-  abbrev pub CallGives : ℕ → Operation Lent → List ℕ → (Answer (Unit {0}) → Type 0) → List ℕ → Type 0
-  CallGives s op field told field' = told (plain (call κ g s op field).reply) × (field' ≡ (call κ g s op field).field)
+  abbrev pub CallGives : (s : ℕ) (op : Operation Lent) → List ℕ → (Answer (Told op) → Type 0) → List ℕ → Type 0
+  CallGives s op field told field' = told (mapped (tell op) (call κ g s op field).reply) × (field' ≡ (call κ g s op field).field)
 
   -- a step of tracer s, which is lent report and work, too
-  abbrev pub StepGives : ℕ → List ℕ → List ℤ → List ℤ → List ℤ → (Answer (Unit {0}) → Type 0) → List ℕ → List ℤ → List ℤ → Type 0
+  abbrev pub StepGives : ℕ → List ℕ → List ℤ → List ℤ → List ℤ → (Answer ℕ → Type 0) → List ℕ → List ℤ → List ℤ → Type 0
   StepGives s field wind report work told field' report' work' =
       let a = (call κ g s (step (lent wind report work)) field).reply in
-      told (plain a) × ((field' ≡ (call κ g s (step (lent wind report work)) field).field) × ((report' ≡ report_after a report) × WorkAfter g a work work'))
+      told (clipped_mass a) × ((field' ≡ (call κ g s (step (lent wind report work)) field).field) × ((report' ≡ report_after a report) × WorkAfter g a work work'))
 
   abbrev pub FreshGives : List ℕ → List ℤ → (Answer (Unit {0}) → Type 0) → List ℕ → List ℤ → Type 0
   FreshGives field wind told field' wind' = told (fresh_reply κ g field wind) × ((field' ≡ fresh_field κ g field wind) × (wind' ≡ fresh_wind κ g field wind))

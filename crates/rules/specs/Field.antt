@@ -91,6 +91,10 @@ quadratic = record {
 unfoldable pub weight_sum : Kind → ℕ
 weight_sum κ = sum κ.nodes κ.weight
 
+-- every node's weight is above 0
+abbrev pub PositiveWeights : Kind → Type 0
+PositiveWeights κ = (k : ℕ) → k < κ.nodes → 0 < κ.weight k
+
 -- ---- layout: "smoke outer, then j, then i, ten numbers an element", the values and then the remainder
 unfoldable pub element_length : Kind → ℕ
 element_length κ = κ.nodes + 1

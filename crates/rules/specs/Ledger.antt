@@ -1,5 +1,5 @@
 -- Document 01, "Ledger": what one call does to the ledger's numbers of its tracer, one whole number per element.
--- It is fed the call's arguments and its answer, and nothing from the field.
+-- It is fed the call's arguments and its answer, of which it reads the report alone, and nothing from the field.
 use Rattle.std.specs.Prelude.{Bool, cond, ℕ, zero, suc, eqb, ℤ, pos, ◌+ℤ◌, ◌-ℤ◌, get_or}
 use Rattle.rules.specs.declared.Shape.{Shape}
 use Rattle.rules.specs.Answers.{Answer, accepted, refused}

@@ -1,4 +1,4 @@
--- Document 01, "Field file", and document 02, 2026-03: what the programs print, as bytes.
+-- Document 01, "Field file", and document 02, 2026-03 and 2026-04: what the programs print, as bytes.
 use Rattle.std.specs.Prelude.{cond, List, [], ◌∷◌, ◌++◌, ltb, ℤ, pos, length, replicate}
 use Prim.Native.Nat.{ℕ, zero, suc, ◌*◌}
 use Rattle.whole.specs.Table.{blocks, at}
@@ -32,18 +32,24 @@ abbrev pub way_word : Way → List ℕ
 way_word East = 32 ∷ 101 ∷ 97 ∷ 115 ∷ 116 ∷ 32 ∷ []
 way_word North = 32 ∷ 110 ∷ 111 ∷ 114 ∷ 116 ∷ 104 ∷ 32 ∷ []
 
+-- a word and three numbers
+unfoldable pub numbers_line : List ℕ → ℕ → ℕ → ℕ → List ℕ
+unfolding decimal_by
+numbers_line word x y z = word ++ (decimal x ++ (space ++ (decimal y ++ (space ++ (decimal z ++ newline)))))
+
 -- "Fields: nx, ny, K; smoke, direction, i, j, G* ..; smoke, total after the step."
 unfoldable pub grid_line : Shape → List ℕ
-unfolding decimal_by
-grid_line g = grid_word ++ (decimal g.nx ++ (space ++ (decimal g.ny ++ (space ++ (decimal g.tracers ++ newline)))))
+unfolding numbers_line
+grid_line g = numbers_line grid_word g.nx g.ny g.tracers
 
 unfoldable pub face_line : ℕ → Way → ℕ → ℕ → ℤ → List ℕ
 unfolding decimal_by signed
 face_line s way i j flux = face_word ++ (decimal s ++ (way_word way ++ (decimal i ++ (space ++ (decimal j ++ (space ++ (signed flux ++ newline)))))))
 
-unfoldable pub total_line : ℕ → ℕ → List ℕ
-unfolding decimal_by
-total_line s total = total_word ++ (decimal s ++ (space ++ (decimal total ++ newline)))
+-- document 02, 2026-04: "The program's total line gets it as a last field"
+unfoldable pub total_line : ℕ → ℕ → ℕ → List ℕ
+unfolding numbers_line
+total_line s total clipped = numbers_line total_word s total clipped
 
 -- "Any other refusal prints "refused" and its number, alone."
 unfoldable pub refused_line : ℕ → List ℕ
@@ -61,9 +67,9 @@ module _ (g : Shape) (s : ℕ) where
   face_lines way report = blocks g.ny (face_row way report)
 
   -- "all east faces first"; "Face lines and the total come smoke by smoke."
-  unfoldable pub tracer_lines : List ℤ → ℕ → List ℕ
+  unfoldable pub tracer_lines : List ℤ → ℕ → ℕ → List ℕ
   unfolding face_lines total_line
-  tracer_lines report total = face_lines East report ++ (face_lines North report ++ total_line s total)
+  tracer_lines report total clipped = face_lines East report ++ (face_lines North report ++ total_line s total clipped)
 
 -- ---- a step of each tracer
 -- what goes on where an answer is accepted
@@ -89,7 +95,7 @@ module _ (g : Shape) (wind : List ℤ) where
   unfolding call total_reading tracer_lines
   stepped s field =
       let c = call quadratic g s (step (lengths_lent wind report_lent work_lent)) field in
-      next c.reply (λ r. next (total_reading quadratic g s c.field) (λ total. accepted (record { text = tracer_lines g s r.report total; field = c.field })))
+      next c.reply (λ r. next (total_reading quadratic g s c.field) (λ total. accepted (record { text = tracer_lines g s r.report total r.clipped; field = c.field })))
 
   -- the first n tracers, after the line of the grid
   unfoldable pub up_to : ℕ → List ℕ → Answer Printed

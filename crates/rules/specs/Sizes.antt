@@ -1,4 +1,4 @@
--- The sizes of the numbers that a step and a closing make, as the leaves of the code ask and ensure them. They are round, and loose where
+-- The sizes of the numbers that a step and a closing make, as the leaves of the code ask and ensure them, and of what a step answers. They are round, and loose where
 -- they only keep sums within 64 bits; `StageBounds` has the sharp ones.
 use Rattle.std.specs.Prelude.{ℕ, ◌+◌, ◌*◌}
 use Rattle.rules.specs.Field.{limit}
@@ -30,8 +30,8 @@ flux_size = 27 * stage_size
 abbrev pub outflow_size : ℕ
 outflow_size = 4 * flux_size
 
--- ---- closing: the values that it is given, what levelling adds to them (their mean and a 36th of the target), what they are then, and the
--- target
+-- ---- closing: the values that it is given, what levelling adds to them (their mean and a 36th of the target), what they are then, the
+-- target, and the clipped mass of an element and of a step
 abbrev pub tentative_size : ℕ
 tentative_size = 92 * limit
 
@@ -43,3 +43,9 @@ levelled_size = tentative_size + shift_size
 
 abbrev pub target_size : ℕ
 target_size = 5 * limit
+
+abbrev pub clipped_size : ℕ
+clipped_size = 36 * levelled_size
+
+abbrev pub step_clipped_size : ℕ
+step_clipped_size = most_elements * clipped_size

@@ -13,10 +13,10 @@ use Rattle.whole.proofs.Cases.{both_yes}
 use Rattle.whole.proofs.OverwriteLaws.{front-is}
 use Rattle.whole.proofs.SumLaws.{all-at}
 use Rattle.rules.specs.declared.Shape.{Shape}
-use Rattle.rules.specs.Answers.{Answer, accepted, refused, Check, check, answer, plain}
+use Rattle.rules.specs.Answers.{Answer, accepted, refused, Check, check, answer, mapped, plain}
 use Rattle.rules.specs.Field.{quadratic, admitted, faces, work_needed, field_length, part_length, part, with_part, total, Admitted, elements_length, wind_in_range}
 use Rattle.rules.specs.Step.{tracer_step}
-use Rattle.rules.specs.Calls.{Operation, step, Lent, lengths_lent, wind_at, wind_sound, lent_enough, sound_if_there, checks, done, call, total_reading, report_after, WorkAfter, Reply}
+use Rattle.rules.specs.Calls.{Operation, step, Lent, lengths_lent, wind_at, wind_sound, lent_enough, sound_if_there, checks, done, call, total_reading, clipped_mass, report_after, WorkAfter, Reply}
 use Rattle.rules.proofs.AnswerLaws.{Passed, answer-ind, prefix-refused, prefix-accepted}
 use Rattle.rules.proofs.FieldLaws.{total-small, sound-there}
 use Rattle.rules.proofs.ShapeLaws.{ranges}
@@ -41,7 +41,7 @@ module _ (g : Shape) (s : ℕ) (f : List ℕ) (wind : List ℤ) (rl wl : ℕ) wh
   last-two = check 6 (sound_if_there quadratic g (ltb s g.tracers) p) ∷ check 7 (ltb s g.tracers) ∷ []
 
   abbrev r : Reply
-  r = record { report = (tracer_step quadratic g (wind_at wind) p).report }
+  r = let d = tracer_step quadratic g (wind_at wind) p in record { report = d.report; clipped = d.clipped }
 
   pub step-2 : admitted g ≡ false → (call quadratic g s op f).reply ≡ refused 2
   unfolding call answer
@@ -114,15 +114,9 @@ module _ (g : Shape) (s : ℕ) (f : List ℕ) (wind : List ℤ) (rl wl : ℕ) wh
       }
 
   pub stepping : plain (call quadratic g s op f).reply ≡ accepted tt → Stepping
-  unfolding plain
+  unfolding mapped
   stepping e = answer-ind (λ a. (call quadratic g s op f).reply ≡ a → plain a ≡ accepted tt → Stepping) all-checks r
       (λ n q z. let w : ◌≡◌ {A = ℕ} 0 1 = cc in absurd (omega arith)) (λ c q z. stepping-of c q) reply-is (ap plain (sym reply-is) ∙ e)
-
--- ---- an answer that is plainly refused
-pub plain-refused : {A : Type 0} (a : Answer A) (n : ℕ) → plain a ≡ refused n → a ≡ refused n
-unfolding plain
-plain-refused (accepted x) n e = let w : ◌≡◌ {A = ℕ} 0 1 = cc in absurd (omega arith)
-plain-refused (refused m) n e = cc
 
 -- ---- what a call leaves of report and work
 pub report-refused : (a : Answer Reply) (n : ℕ) (old : List ℤ) → a ≡ refused n → old ≡ report_after a old
@@ -151,13 +145,13 @@ unfolding with_part overwrite
 part-back g s at k x new f ea ek ex size = rw (ea, ek ∙ sym (part-is-elements quadratic g) ∙ sym size, ex)
 
 -- what a step on the grid of a shape gives is what it gives on the shape
-pub on_shape : {a : Answer (Unit {0})} {f' : List ℕ} {r' : List ℤ} (w' : List ℤ) {g h : Shape} (s : ℕ) (o : Operation Lent) (f : List ℕ) (r w : List ℤ) → g ≡ h
-    → (a ≡ plain (call quadratic g s o f).reply) × ((f' ≡ (call quadratic g s o f).field) × ((r' ≡ report_after (call quadratic g s o f).reply r) × WorkAfter g (call quadratic g s o f).reply w w'))
-    → (a ≡ plain (call quadratic h s o f).reply) × ((f' ≡ (call quadratic h s o f).field) × ((r' ≡ report_after (call quadratic h s o f).reply r) × WorkAfter h (call quadratic h s o f).reply w w'))
+pub on_shape : {a : Answer ℕ} {f' : List ℕ} {r' : List ℤ} (w' : List ℤ) {g h : Shape} (s : ℕ) (o : Operation Lent) (f : List ℕ) (r w : List ℤ) → g ≡ h
+    → (a ≡ clipped_mass (call quadratic g s o f).reply) × ((f' ≡ (call quadratic g s o f).field) × ((r' ≡ report_after (call quadratic g s o f).reply r) × WorkAfter g (call quadratic g s o f).reply w w'))
+    → (a ≡ clipped_mass (call quadratic h s o f).reply) × ((f' ≡ (call quadratic h s o f).field) × ((r' ≡ report_after (call quadratic h s o f).reply r) × WorkAfter h (call quadratic h s o f).reply w w'))
 on_shape {a} {f'} {r'} w' s o f r w e h =
-    subst (λ k. (a ≡ plain (call quadratic k s o f).reply) × ((f' ≡ (call quadratic k s o f).field) × ((r' ≡ report_after (call quadratic k s o f).reply r) × WorkAfter k (call quadratic k s o f).reply w w'))) e h
+    subst (λ k. (a ≡ clipped_mass (call quadratic k s o f).reply) × ((f' ≡ (call quadratic k s o f).field) × ((r' ≡ report_after (call quadratic k s o f).reply r) × WorkAfter k (call quadratic k s o f).reply w w'))) e h
 
 -- a refused step leaves every buffer
 pub left : (g : Shape) (s : ℕ) (o : Operation Lent) (f : List ℕ) (r w : List ℤ) (n : ℕ) → (call quadratic g s o f).reply ≡ refused n
-    → (refused n ≡ plain (call quadratic g s o f).reply) × ((f ≡ (call quadratic g s o f).field) × ((r ≡ report_after (call quadratic g s o f).reply r) × WorkAfter g (call quadratic g s o f).reply w w))
-left g s o f r w n e = let q = call-refused g s o f n e in (q.0, (q.1, (report-refused _ n r e, work-refused g _ n w e)))
+    → (refused n ≡ clipped_mass (call quadratic g s o f).reply) × ((f ≡ (call quadratic g s o f).field) × ((r ≡ report_after (call quadratic g s o f).reply r) × WorkAfter g (call quadratic g s o f).reply w w))
+left g s o f r w n e = let q = call-refused (λ x. x.clipped) g s o f n e in (q.0, (q.1, (report-refused _ n r e, work-refused g _ n w e)))

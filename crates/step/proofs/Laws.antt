@@ -1,4 +1,4 @@
--- The target's sum, exact since each of its numbers is within the limit; an element's new numbers, from what is lent.
+-- The target's sum, exact since each of its numbers is within the limit; what an element's closing gives, from what is lent.
 use mathlib.Core.Path.{◌≡◌, sym, subst, ◌∙◌}
 use mathlib.Core.List.{List}
 use Prim.Native.Nat.{ℕ, ◌+◌, ◌*◌, ◌≤◌, ◌<◌}
@@ -23,7 +23,7 @@ use Rattle.rules.proofs.LimiterLaws.{closed-cong}
 use Rattle.rules.proofs.StepLaws.{length-closed}
 use Rattle.limiter.specs.Sizes.{Tentative}
 use Rattle.step_upwind.specs.Upwind.{stage_length, as_stage}
-use Rattle.step.specs.Finish.{Balance, mass_of, new_element}
+use Rattle.step.specs.Finish.{Balance, mass_of, closed_element}
 
 -- a limited flux as it is read from the report
 pub read : (report : List ℤ) (i : ℕ) {r : ℤ} → AllWithin limit report → r ≡ to_z w32 (of_z w32 (at report i)) → Are limit r (at report i)
@@ -44,8 +44,8 @@ target-within g masses report e l h = omega (arith, positive-le (target g (mass_
     small = within-le (within-add (within-sub (within-add (within-sub m (f _)) (f _)) (f _)) (f _)) (omega arith)
 
 -- ---- a new element
-pub new-length : (g : Shape) (psi masses report : List ℤ) (e : ℕ) → length (new_element g psi masses report e) ≡ 10
-unfolding new_element element_length quadratic
+pub new-length : (g : Shape) (psi masses report : List ℤ) (e : ℕ) → length (closed_element g psi masses report e).numbers ≡ 10
+unfolding closed_element element_length quadratic
 new-length g psi masses report e = length-closed quadratic (as_stage psi e) (positive (target g (mass_of masses) (at report) e))
 
 -- the tentative values of element e, as they are lent to the closing, and what it makes of them
@@ -55,5 +55,6 @@ tentative-lent g psi e long small l = record {
   small = λ k lk. subst (Within tentative_size) (sym (get_or-drop (e * 9) psi k (pos 0))) (small.all (e * 9 + k));
 }
 
-pub closed-lent : (psi : List ℤ) (e t : ℕ) → closed quadratic (at (drop (e * 9) psi)) t ≡ closed quadratic (as_stage psi e) t
-closed-lent psi e t = closed-cong quadratic (at (drop (e * 9) psi)) (as_stage psi e) t (λ k lk. get_or-drop (e * 9) psi k (pos 0))
+pub closing-lent : (g : Shape) (psi masses report : List ℤ) (e : ℕ) {l : List ℤ} {t : ℕ} → l ≡ drop (e * 9) psi → t ≡ positive (target g (mass_of masses) (at report) e) → closed quadratic (at l) t ≡ closed_element g psi masses report e
+unfolding closed_element
+closing-lent g psi masses report e el et = (λ i. closed quadratic (at (el i)) (et i)) ∙ closed-cong quadratic (at (drop (e * 9) psi)) (as_stage psi e) _ (λ k lk. get_or-drop (e * 9) psi k (pos 0))

@@ -12,9 +12,11 @@ use lib.ListN.{length, get_or, replicate, get_or-eq_default}
 use lib.Signed.{non_neg, ◌≤ℤ◌}
 use Rattle.whole.specs.Bound.{Within, AllWithin}
 use Rattle.whole.specs.Parts.{positive, negative}
+use Rattle.whole.specs.Sum.{sum}
 use Rattle.whole.specs.Table.{table, blocks, at}
 use Rattle.whole.proofs.Cases.{cond_ind}
 use Rattle.whole.proofs.BoundLaws.{within-le, within-pos}
+use Rattle.whole.proofs.SumLaws.{sum-cong}
 use Rattle.whole.proofs.TableLaws.{length-table, get_d-table, table-all, table-cong, blocks-cong}
 use Rattle.whole.proofs.WholeLaws.{positive-pos, abs-parts}
 use Rattle.rules.specs.declared.Shape.{Shape}
@@ -41,7 +43,7 @@ use Rattle.step_stages.proofs.StagesLaws.{stage_list, sums_list, first-stage, fi
 use Rattle.step_fluxes.specs.Face.{combined, face_flux}
 use Rattle.step_fluxes.proofs.FluxLaws.{combined_list, combined-is, combined-small, fluxes-are}
 use Rattle.step_correction.specs.Amounts.{NotNegative, Amounts, limited_face}
-use Rattle.step.specs.Finish.{Balance, mass_of, new_element}
+use Rattle.step.specs.Finish.{Balance, mass_of, closed_element}
 
 not-below : (n : ℕ) → pos 0 ≤ℤ pos n
 not-below n = record { le = le→leb 0 n (omega arith) }
@@ -255,7 +257,15 @@ module _ {g : Shape} {wind : List ℤ} {p : List ℕ} (given : Given g wind p) w
   pub balance-of : {ms r : List ℤ} → ms ≡ masses → r ≡ limited → Balance g ms r
   balance-of em er = rw (em, er) balance
 
-  pub all_closed : {psi ms r : List ℤ} {part : List ℕ} → psi ≡ phi 3 → ms ≡ masses → r ≡ limited → part ≡ blocks (elements g) (new_element g psi ms r) → part ≡ finish quadratic g p s limited
-  unfolding finish new_element quadratic
-  all_closed ep em er h = h ∙ (λ i. blocks (elements g) (new_element g (ep i) (em i) (er i)))
-      ∙ blocks-cong (elements g) _ _ (λ e l. ap (λ z. closed quadratic (λ k. at (phi 3) (e * 9 + k)) (positive z)) (target-same e l) ∙ closed-cong quadratic (λ k. at (phi 3) (e * 9 + k)) (s.ψ e) _ (λ k lk. listed-at (elements g) s.ψ e k l lk))
+  -- ---- the closings, from what is lent
+  module _ {psi ms r : List ℤ} (ep : psi ≡ phi 3) (em : ms ≡ masses) (er : r ≡ limited) where
+    same_closing : (e : ℕ) → e < elements g → closed_element g psi ms r e ≡ finish quadratic g p s limited e
+    unfolding finish closed_element quadratic
+    same_closing e l = (λ i. closed_element g (ep i) (em i) (er i) e)
+        ∙ ap (λ z. closed quadratic (λ k. at (phi 3) (e * 9 + k)) (positive z)) (target-same e l) ∙ closed-cong quadratic (λ k. at (phi 3) (e * 9 + k)) (s.ψ e) _ (λ k lk. listed-at (elements g) s.ψ e k l lk)
+
+    pub all_closed : {part : List ℕ} → part ≡ blocks (elements g) (λ e. (closed_element g psi ms r e).numbers) → part ≡ blocks (elements g) (λ e. (finish quadratic g p s limited e).numbers)
+    all_closed h = h ∙ blocks-cong (elements g) _ _ (λ e l. ap (λ x. x.numbers) (same_closing e l))
+
+    pub all_clipped : {n : ℕ} → n ≡ sum (elements g) (λ e. (closed_element g psi ms r e).clipped) → n ≡ sum (elements g) (λ e. (finish quadratic g p s limited e).clipped)
+    all_clipped h = h ∙ sum-cong (elements g) _ _ (λ e l. ap (λ x. x.clipped) (same_closing e l))

@@ -5,7 +5,7 @@ use Rattle.whole.specs.Bound.{AllWithin}
 use Rattle.whole.specs.Parts.{positive, negative}
 use Rattle.rules.specs.declared.Shape.{Shape}
 use Rattle.rules.specs.Field.{quadratic, elements, faces, limit}
-use Rattle.rules.specs.Limiter.{closed}
+use Rattle.rules.specs.Limiter.{Closed, closed}
 use Rattle.rules.specs.Correction.{target}
 use Rattle.step_upwind.specs.Upwind.{as_stage}
 use Rattle.step_correction.specs.Amounts.{NotNegative}
@@ -22,7 +22,7 @@ pub record Balance (g : Shape) (masses report : List ℤ) : Type 0 where
   pub flux-sizes : AllWithin limit report
   pub targets : (e : ℕ) → e < elements g → negative (target g (mass_of masses) (at report) e) ≡ 0
 
--- an element's numbers after the step
-unfoldable pub new_element : Shape → List ℤ → List ℤ → List ℤ → ℕ → List ℕ
+-- what an element's closing gives: its numbers after the step, and the clipped mass
+unfoldable pub closed_element : Shape → List ℤ → List ℤ → List ℤ → ℕ → Closed
 unfolding closed target positive
-new_element g psi masses report e = closed quadratic (as_stage psi e) (positive (target g (mass_of masses) (at report) e))
+closed_element g psi masses report e = closed quadratic (as_stage psi e) (positive (target g (mass_of masses) (at report) e))

@@ -4,9 +4,10 @@
 #![tactic(auto)]
 
 ghost use Rattle.std.specs.Prelude.{◌≡◌, ◌&&◌, leb};
-ghost use Rattle.rules.specs.Answers.{plain, answers};
+ghost use Rattle.rules.specs.Answers.{plain, answered, answers, AtMost};
 ghost use Rattle.rules.specs.Field.{quadratic, faces, work_needed, field_length};
 ghost use Rattle.rules.specs.Calls.{step, lengths_lent, call, StepGives};
+ghost use Rattle.rules.specs.Sizes.{step_clipped_size};
 
 use field_layout::Grid;
 use rules::{Refusal, Shape};
@@ -51,7 +52,8 @@ fn check(
     Ok(())
 }
 
-// A step of one tracer: its elements and the face report.
+// A step of one tracer: its elements and the face report. The clipped mass is answered, the sum over the elements; it is bounded because the C interface
+// passes it as an i64.
 pub fn step(
     field: &mut [u32],
     wind: &[i16],
@@ -59,8 +61,9 @@ pub fn step(
     work: &mut [i64],
     shape: Shape,
     tracer: usize,
-) -> Result<(), Refusal>
-    ensures { StepGives quadratic shape tracer field.old wind.now report.old work.old (answers result) field.new report.new work.new }
+) -> Result<u64, Refusal>
+    ensures gives { StepGives quadratic shape tracer field.old wind.now report.old work.old (answers result) field.new report.new work.new }
+    ensures bound { AtMost step_clipped_size (answered result) }
 {
     let grid = Grid::try_from(shape)?;
     check(field, wind, report.len(), work.len(), grid, tracer)?;
@@ -68,11 +71,10 @@ pub fn step(
     let end = start + grid.elements_length();
     let faces = grid.faces();
     let needed = work_needed(grid);
-    tracer::step(
+    Ok(tracer::step(
         &mut field[start..end],
         Winds { wind, grid },
         &mut report[..faces],
         &mut work[..needed],
-    );
-    Ok(())
+    ))
 }

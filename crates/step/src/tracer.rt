@@ -2,14 +2,15 @@
 ghost use Rattle.std.specs.Prelude.{◌≡◌, ◌≤◌, length};
 ghost use Rattle.whole.specs.Bound.{AllWithin};
 ghost use Rattle.whole.specs.Parts.{positive};
+ghost use Rattle.whole.specs.Sum.{sum};
 ghost use Rattle.whole.specs.Table.{blocks, at};
 ghost use Rattle.rules.specs.Field.{quadratic, elements, elements_length, faces, work_needed, total, limit};
 ghost use Rattle.rules.specs.Correction.{target};
 ghost use Rattle.rules.specs.Step.{tracer_step};
 ghost use Rattle.rules.specs.Calls.{wind_at};
-ghost use Rattle.rules.specs.Sizes.{target_size, tentative_size};
+ghost use Rattle.rules.specs.Sizes.{target_size, tentative_size, step_clipped_size};
 ghost use Rattle.step_upwind.specs.Upwind.{stage_length};
-ghost use Rattle.step.specs.Finish.{Balance, mass_of, new_element};
+ghost use Rattle.step.specs.Finish.{Balance, mass_of, closed_element};
 
 use field_layout::Grid;
 use limiter::Closing;
@@ -31,15 +32,18 @@ fn target(masses: &[i64], report: &[i32], element: Element) -> u64
     all.unsigned_abs() // a target is never below 0
 }
 
-// Every element is closed with its tentative values and its target.
-fn finish(part: &mut [u32], psi: &[i64], masses: &[i64], report: &[i32], grid: Grid)
+// Every element is closed with its tentative values and its target. The sum of the clipped masses is answered.
+fn finish(part: &mut [u32], psi: &[i64], masses: &[i64], report: &[i32], grid: Grid) -> u64
     requires part_len { length part.old ≡ elements_length quadratic grid.shape }
     requires psi_len { length psi.now ≡ stage_length grid.shape }
     requires all_within { AllWithin tentative_size psi.now }
     requires balance { Balance grid.shape masses.now report.now }
-    ensures { part.new ≡ blocks (elements grid.shape) (new_element grid.shape psi.now masses.now report.now) }
+    ensures numbers { part.new ≡ blocks (elements grid.shape) (λ e. (closed_element grid.shape psi.now masses.now report.now e).numbers) }
+    ensures clipped { result ≡ sum (elements grid.shape) (λ e. (closed_element grid.shape psi.now masses.now report.now e).clipped) }
+    ensures upper_bound { result ≤ step_clipped_size }
 {
     let n = grid.elements();
+    let mut clipped = 0;
     // By number, which gives the element its neighbours and its place in both slices: of what stands in parts that `chunks_exact_mut` has lent,
     // a proof knows nothing afterwards.
     for index in 0..n {
@@ -49,19 +53,22 @@ fn finish(part: &mut [u32], psi: &[i64], masses: &[i64], report: &[i32], grid: G
         };
         let start = index * NUMBERS;
         let end = start + NUMBERS;
-        closing.close(&mut part[start..end]);
+        clipped += closing.close(&mut part[start..end]);
     }
+    clipped
 }
 
-// The step of a tracer's part, and its report. What it works with stands in sections of `work`, one after the other: the stages, the sums
-// of tendencies, and what the faces and the elements have.
-pub(crate) fn step(part: &mut [u32], winds: Winds, report: &mut [i32], work: &mut [i64])
+// The step of a tracer's part, and its report; the clipped mass is answered. What it works with stands in sections of `work`, one after the other:
+// the stages, the sums of tendencies, and what the faces and the elements have.
+pub(crate) fn step(part: &mut [u32], winds: Winds, report: &mut [i32], work: &mut [i64]) -> u64
     requires part_len { length part.old ≡ elements_length quadratic winds.grid.shape }
     requires part_bound { total quadratic winds.grid.shape part.old ≤ limit }
     requires report_len { length report.old ≡ faces winds.grid.shape }
     requires work_len { work_needed winds.grid.shape ≤ length work.old }
     ensures part_after { part.new ≡ (tracer_step quadratic winds.entry.grid.shape (wind_at winds.entry.wind.now) part.old).part }
     ensures report_after { report.new ≡ (tracer_step quadratic winds.entry.grid.shape (wind_at winds.entry.wind.now) part.old).report }
+    ensures clipped_after { result ≡ (tracer_step quadratic winds.entry.grid.shape (wind_at winds.entry.wind.now) part.old).clipped }
+    ensures upper_bound { result ≤ step_clipped_size }
 {
     let grid = winds.grid;
     let n = grid.elements();
@@ -90,5 +97,5 @@ pub(crate) fn step(part: &mut [u32], winds: Winds, report: &mut [i32], work: &mu
     step_correction::masses(masses, part);
     step_correction::outflows(outflows, fluxes, grid);
     step_correction::limit(report, fluxes, outflows, masses, grid);
-    finish(part, psi, masses, report, grid);
+    finish(part, psi, masses, report, grid)
 }

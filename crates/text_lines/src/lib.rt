@@ -7,25 +7,39 @@
 ghost use Rattle.std.specs.Prelude.{◌+◌, ◌*◌, ◌≤◌, length};
 ghost use Rattle.whole.specs.Table.{blocks, at};
 ghost use Rattle.rules.specs.Field.{faces};
-ghost use Rattle.rules.specs.Program.{way_word, grid_line, face_line, total_line, refused_line, face_lines, tracer_lines};
+ghost use Rattle.rules.specs.Program.{way_word, numbers_line, grid_line, face_line, total_line, refused_line, face_lines, tracer_lines};
 ghost use Rattle.text.specs.Adds.{Adds, HasRoom};
 
 use field_layout::Grid;
 use rules::{Shape, Way};
 use text::Text;
 
+// A line of a word and three numbers.
+fn numbers_line(text: &mut Text, word: &[u8], x: u64, y: u64, z: u64)
+    requires { HasRoom (length word.now + 63) text.old }
+    ensures { Adds (length word.now + 63) (numbers_line word.now x y z) text.old text.new }
+{
+    text.put(word);
+    text.number(x);
+    text.put(b" ");
+    text.number(y);
+    text.put(b" ");
+    text.number(z);
+    text.newline();
+}
+
 // The line of the grid: nx, ny and how many tracers.
 pub fn grid_line(text: &mut Text, shape: Shape)
     requires { HasRoom 68 text.old }
     ensures { Adds 68 (grid_line shape) text.old text.new }
 {
-    text.put(b"grid ");
-    text.number(shape.nx as u64);
-    text.put(b" ");
-    text.number(shape.ny as u64);
-    text.put(b" ");
-    text.number(shape.tracers as u64);
-    text.newline();
+    numbers_line(
+        text,
+        b"grid ",
+        shape.nx as u64,
+        shape.ny as u64,
+        shape.tracers as u64,
+    );
 }
 
 // The line of a refusal: its number, which is all that the line prints.
@@ -75,16 +89,12 @@ fn face_row(text: &mut Text, tracer: usize, way: Way, j: usize, row: &[i32])
     }
 }
 
-// The line of a tracer's total.
-fn total_line(text: &mut Text, tracer: usize, total: u64)
-    requires { HasRoom 48 text.old }
-    ensures { Adds 48 (total_line tracer total) text.old text.new }
+// The line of a tracer: its total, and its step's clipped mass.
+fn total_line(text: &mut Text, tracer: usize, total: u64, clipped: u64)
+    requires { HasRoom 69 text.old }
+    ensures { Adds 69 (total_line tracer total clipped) text.old text.new }
 {
-    text.put(b"total ");
-    text.number(tracer as u64);
-    text.put(b" ");
-    text.number(total);
-    text.newline();
+    numbers_line(text, b"total ", tracer as u64, total, clipped);
 }
 
 // The report of a tracer's step, in which every face of the grid has a place.
@@ -114,11 +124,18 @@ impl TracerReport<'_> {
     }
 }
 
-// What is printed of a tracer after its step: its east faces, its north faces, and its total.
-pub fn tracer_lines(text: &mut Text, grid: Grid, tracer: usize, report: &[i32], total: u64)
+// What is printed of a tracer after its step: its east faces, its north faces, and its total with the step's clipped mass.
+pub fn tracer_lines(
+    text: &mut Text,
+    grid: Grid,
+    tracer: usize,
+    report: &[i32],
+    total: u64,
+    clipped: u64,
+)
     requires shape_in_bounds { faces grid.shape ≤ length report.now }
-    requires room { HasRoom (2 * (grid.shape.ny * (grid.shape.nx * 96)) + 48) text.old }
-    ensures { Adds (2 * (grid.shape.ny * (grid.shape.nx * 96)) + 48) (tracer_lines grid.shape tracer report.now total) text.old text.new }
+    requires room { HasRoom (2 * (grid.shape.ny * (grid.shape.nx * 96)) + 69) text.old }
+    ensures { Adds (2 * (grid.shape.ny * (grid.shape.nx * 96)) + 69) (tracer_lines grid.shape tracer report.now total clipped) text.old text.new }
 {
     let faces = TracerReport {
         report,
@@ -127,5 +144,5 @@ pub fn tracer_lines(text: &mut Text, grid: Grid, tracer: usize, report: &[i32], 
     };
     faces.face_lines(text, Way::East);
     faces.face_lines(text, Way::North);
-    total_line(text, tracer, total);
+    total_line(text, tracer, total, clipped);
 }

@@ -131,6 +131,34 @@ weighted-parts n w f = omega (
   sum-cong n (λ k. negative (pos (w k) *ℤ f k)) (λ k. w k * negative (f k)) (λ k _. negative-mul (w k) (f k)),
 )
 
+-- values that are all raised by s: their weighted sum rises by the weights' sum times s
+pub weighted-raised : (n : ℕ) (w : ℕ → ℕ) (f : ℕ → ℤ) (s : ℤ) → sum_ℤ n (λ k. pos (w k) *ℤ (f k +ℤ s)) ≡ sum_ℤ n (λ k. pos (w k) *ℤ f k) +ℤ pos (sum n w) *ℤ s
+weighted-raised n w f s = eq-parts (omega (
+  arith,
+  weighted-parts n w f,
+  weighted-parts n w (λ k. f k +ℤ s),
+  add_parts (sum_ℤ n (λ k. pos (w k) *ℤ f k)) (pos (sum n w) *ℤ s),
+  positive-mul (sum n w) s,
+  negative-mul (sum n w) s,
+  sum-cong n (λ k. w k * positive (f k +ℤ s) + (w k * negative (f k) + w k * negative s)) (λ k. w k * negative (f k +ℤ s) + (w k * positive (f k) + w k * positive s)) (λ k _. raised-term (w k) (f k)),
+  sum-add n (λ k. w k * positive (f k +ℤ s)) (λ k. w k * negative (f k) + w k * negative s),
+  sum-add n (λ k. w k * negative (f k +ℤ s)) (λ k. w k * positive (f k) + w k * positive s),
+  sum-add n (λ k. w k * negative (f k)) (λ k. w k * negative s),
+  sum-add n (λ k. w k * positive (f k)) (λ k. w k * positive s),
+  sum-mul-right n (negative s) w,
+  sum-mul-right n (positive s) w,
+))
+  where
+    raised-term : (v : ℕ) (a : ℤ) → v * positive (a +ℤ s) + (v * negative a + v * negative s) ≡ v * negative (a +ℤ s) + (v * positive a + v * positive s)
+    raised-term v a = omega (
+      arith,
+      ap (λ x. v * x) (add_parts a s),
+      mul-add v (positive (a +ℤ s)) (negative a + negative s),
+      mul-add v (negative a) (negative s),
+      mul-add v (negative (a +ℤ s)) (positive a + positive s),
+      mul-add v (positive a) (positive s),
+    )
+
 -- ---- a test of all indices tells of each
 pub all-at : (n : ℕ) (f : ℕ → Bool) → T (all n f) → (i : ℕ) → i < n → T (f i)
 unfolding all

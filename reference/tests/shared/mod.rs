@@ -41,7 +41,7 @@ impl Ledger {
                 let at = self.at(*smoke, *i, *j);
                 self.held[at] -= *q as i64;
             }
-            (Call::Step(smoke), Answer::Stepped(report)) => {
+            (Call::Step(smoke), Answer::Stepped(report, _)) => {
                 let start = self.at(*smoke, 0, 0);
                 for (face, &moved) in report.iter().enumerate() {
                     let (low, high) = face_elements(self.shape, face);

@@ -55,8 +55,8 @@ pub trait Calls {
     fn wind(&self, wind: &mut [i16], g: Grid, face: Face, c: i16) -> u8;
     fn import(&self, wind: &mut [i16], records: &[u8], g: Grid) -> u8;
     fn load(&self, field: &mut [u32], numbers: &[u32], g: Grid, smoke: usize) -> u8;
-    fn emission(&self, field: &mut [u32], g: Grid, at: Place, q: u64) -> u8;
-    fn withdrawal(&self, field: &mut [u32], g: Grid, at: Place, q: u64) -> u8;
+    fn emission(&self, field: &mut [u32], g: Grid, at: Place, q: u64) -> i64;
+    fn withdrawal(&self, field: &mut [u32], g: Grid, at: Place, q: u64) -> i64;
     fn step(
         &self,
         field: &mut [u32],
@@ -65,7 +65,7 @@ pub trait Calls {
         work: &mut [i64],
         g: Grid,
         smoke: usize,
-    ) -> u8;
+    ) -> i64;
     fn mass(&self, field: &[u32], g: Grid, at: Place) -> i64;
     fn total(&self, field: &[u32], g: Grid, smoke: usize) -> i64;
     fn map(&self, page: &mut [u8], field: &[u32], g: Grid, smoke: usize) -> i64;
@@ -83,11 +83,11 @@ pub fn make(side: &impl Calls, call: &Call, b: &mut Buffers) -> i64 {
         Operation::Wind(face, c) => side.wind(wind, g, face, c).into(),
         Operation::Import => side.import(wind, b.records.lent(), g).into(),
         Operation::Load(smoke) => side.load(field, b.numbers.lent(), g, smoke).into(),
-        Operation::Emission(at, q) => side.emission(field, g, at, q).into(),
-        Operation::Withdrawal(at, q) => side.withdrawal(field, g, at, q).into(),
+        Operation::Emission(at, q) => side.emission(field, g, at, q),
+        Operation::Withdrawal(at, q) => side.withdrawal(field, g, at, q),
         Operation::Step(smoke) => {
             let (report, work) = (b.report.lent_mut(), b.work.lent_mut());
-            side.step(field, wind, report, work, g, smoke).into()
+            side.step(field, wind, report, work, g, smoke)
         }
         Operation::Mass(at) => side.mass(field, g, at),
         Operation::Total(smoke) => side.total(field, g, smoke),
@@ -133,7 +133,7 @@ impl Call {
 
     /// The refusal's number in an answer, 0 where the call was accepted.
     pub fn refusal(&self, answer: i64) -> i64 {
-        let is_number = self.kind() >= 7;
+        let is_number = self.kind() >= 4;
         match (is_number, answer < 0) {
             (true, true) => answer.wrapping_neg(),
             (true, false) => 0,

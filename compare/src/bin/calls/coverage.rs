@@ -1,5 +1,5 @@
-//! What the accepted steps met: smoke over a face, stage values below zero, cut amounts, and these together on one face. And what the
-//! accepted imports and maps did.
+//! What the accepted steps met: smoke over a face, a clipped mass, stage values below zero, cut amounts, and these together on one face. And
+//! what the accepted imports and maps did.
 
 use crate::buffers::Buffers;
 use crate::call::{Call, Operation};
@@ -18,11 +18,16 @@ const LOOKED_INTO: usize = 40;
 /// From how many elements on a grid counts as large.
 const LARGE: usize = 1000;
 
+/// The most that a smoke's total may be.
+const LIMIT: i64 = 100_000_000;
+
 #[derive(Default)]
 pub struct Coverage {
     steps: u64,
     moved: u64,
     changed: u64,
+    clipped: u64,
+    above_limit: u64,
     large: u64,
     looked_into: u64,
     below_zero: u64,
@@ -42,14 +47,18 @@ pub struct Coverage {
 
 impl Coverage {
     /// Looks at an accepted call.
-    pub fn accepted(&mut self, rng: &mut Rng, call: &Call, before: &Buffers, after: &Buffers) {
+    pub fn accepted(&mut self, rng: &mut Rng, call: &Call, answer: i64, before: &Buffers, after: &Buffers) {
         let shape = Shape {
             nx: call.grid.nx,
             ny: call.grid.ny,
             k: call.grid.smokes,
         };
         match call.operation {
-            Operation::Step(smoke) => self.step(rng, shape, smoke, before, after),
+            Operation::Step(smoke) => {
+                self.clipped += u64::from(answer > 0);
+                self.above_limit += u64::from(answer > LIMIT);
+                self.step(rng, shape, smoke, before, after);
+            }
             Operation::Import => self.import(shape, before, after),
             Operation::Map(_) => self.map(shape),
             _ => {}
@@ -101,6 +110,10 @@ impl Coverage {
         println!(
             "{} steps accepted, {} with smoke over a face, {} that changed the field, {} on {LARGE} elements or more",
             self.steps, self.moved, self.changed, self.large
+        );
+        println!(
+            "{} with a clipped mass above 0, {} above {LIMIT}",
+            self.clipped, self.above_limit
         );
         println!(
             "of {} looked into: {} with a stage value below zero, {} with a cut face, {} with both and an old remainder on one face",

@@ -8,9 +8,9 @@ extern "C" {
     fn plume_wind(wind: *mut i16, wind_count: usize, nx: usize, ny: usize, smokes: usize, way: u8, i: usize, j: usize, c: i16) -> u8;
     fn plume_import(wind: *mut i16, wind_count: usize, records: *const u8, records_count: usize, nx: usize, ny: usize, smokes: usize) -> u8;
     fn plume_load(field: *mut u32, field_count: usize, numbers: *const u32, numbers_count: usize, nx: usize, ny: usize, smokes: usize, smoke: usize) -> u8;
-    fn plume_emission(field: *mut u32, field_count: usize, nx: usize, ny: usize, smokes: usize, smoke: usize, i: usize, j: usize, q: u64) -> u8;
-    fn plume_withdrawal(field: *mut u32, field_count: usize, nx: usize, ny: usize, smokes: usize, smoke: usize, i: usize, j: usize, q: u64) -> u8;
-    fn plume_step(field: *mut u32, field_count: usize, wind: *const i16, wind_count: usize, report: *mut i32, report_count: usize, work: *mut i64, work_count: usize, nx: usize, ny: usize, smokes: usize, smoke: usize) -> u8;
+    fn plume_emission(field: *mut u32, field_count: usize, nx: usize, ny: usize, smokes: usize, smoke: usize, i: usize, j: usize, q: u64) -> i64;
+    fn plume_withdrawal(field: *mut u32, field_count: usize, nx: usize, ny: usize, smokes: usize, smoke: usize, i: usize, j: usize, q: u64) -> i64;
+    fn plume_step(field: *mut u32, field_count: usize, wind: *const i16, wind_count: usize, report: *mut i32, report_count: usize, work: *mut i64, work_count: usize, nx: usize, ny: usize, smokes: usize, smoke: usize) -> i64;
     fn plume_mass(field: *const u32, field_count: usize, nx: usize, ny: usize, smokes: usize, smoke: usize, i: usize, j: usize) -> i64;
     fn plume_total(field: *const u32, field_count: usize, nx: usize, ny: usize, smokes: usize, smoke: usize) -> i64;
     fn plume_map(page: *mut u8, page_count: usize, field: *const u32, field_count: usize, nx: usize, ny: usize, smokes: usize, smoke: usize) -> i64;
@@ -40,15 +40,15 @@ impl Calls for Library {
         unsafe { plume_load(field.as_mut_ptr(), field.len(), numbers.as_ptr(), numbers.len(), g.nx, g.ny, g.smokes, smoke) }
     }
 
-    fn emission(&self, field: &mut [u32], g: Grid, at: Place, q: u64) -> u8 {
+    fn emission(&self, field: &mut [u32], g: Grid, at: Place, q: u64) -> i64 {
         unsafe { plume_emission(field.as_mut_ptr(), field.len(), g.nx, g.ny, g.smokes, at.smoke, at.i, at.j, q) }
     }
 
-    fn withdrawal(&self, field: &mut [u32], g: Grid, at: Place, q: u64) -> u8 {
+    fn withdrawal(&self, field: &mut [u32], g: Grid, at: Place, q: u64) -> i64 {
         unsafe { plume_withdrawal(field.as_mut_ptr(), field.len(), g.nx, g.ny, g.smokes, at.smoke, at.i, at.j, q) }
     }
 
-    fn step(&self, field: &mut [u32], wind: &[i16], report: &mut [i32], work: &mut [i64], g: Grid, smoke: usize) -> u8 {
+    fn step(&self, field: &mut [u32], wind: &[i16], report: &mut [i32], work: &mut [i64], g: Grid, smoke: usize) -> i64 {
         unsafe {
             plume_step(field.as_mut_ptr(), field.len(), wind.as_ptr(), wind.len(), report.as_mut_ptr(), report.len(),
                 work.as_mut_ptr(), work.len(), g.nx, g.ny, g.smokes, smoke)

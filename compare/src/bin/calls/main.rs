@@ -48,7 +48,8 @@ impl Run {
             .and_then(|answer| self.table.count(&call, answer).map(|()| answer))
             .map_err(|what| format!("{}\n{what}", described(&call, c)))?;
         if call.refusal(answer) == 0 {
-            self.coverage.accepted(rng, &call, &c.before, &c.ours);
+            self.coverage
+                .accepted(rng, &call, answer, &c.before, &c.ours);
             self.coverage.read_back += u64::from(expected == Expected::SameField);
             self.coverage.written_again += u64::from(expected == Expected::SameFile);
         }

@@ -12,7 +12,7 @@ fn accepted(answer: Result<(), u8>) -> u8 {
 
 fn number(answer: Result<u64, u8>) -> i64 {
     match answer {
-        Ok(number) => i64::try_from(number).expect("a sound smoke's numbers are small"),
+        Ok(number) => i64::try_from(number).expect("every answer fits"),
         Err(refusal) => -i64::from(refusal),
     }
 }
@@ -42,14 +42,14 @@ impl Calls for Other {
         accepted(reference::load(field, numbers, g.nx, g.ny, g.smokes, smoke))
     }
 
-    fn emission(&self, field: &mut [u32], g: Grid, at: Place, q: u64) -> u8 {
-        accepted(reference::emission(
+    fn emission(&self, field: &mut [u32], g: Grid, at: Place, q: u64) -> i64 {
+        number(reference::emission(
             field, g.nx, g.ny, g.smokes, at.smoke, at.i, at.j, q,
         ))
     }
 
-    fn withdrawal(&self, field: &mut [u32], g: Grid, at: Place, q: u64) -> u8 {
-        accepted(reference::withdrawal(
+    fn withdrawal(&self, field: &mut [u32], g: Grid, at: Place, q: u64) -> i64 {
+        number(reference::withdrawal(
             field, g.nx, g.ny, g.smokes, at.smoke, at.i, at.j, q,
         ))
     }
@@ -62,8 +62,8 @@ impl Calls for Other {
         work: &mut [i64],
         g: Grid,
         smoke: usize,
-    ) -> u8 {
-        accepted(reference::step(
+    ) -> i64 {
+        number(reference::step(
             field, wind, report, work, g.nx, g.ny, g.smokes, smoke,
         ))
     }

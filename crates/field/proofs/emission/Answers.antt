@@ -1,6 +1,6 @@
 -- Emission: each refusal is the definition's by what the reading of the total says; an accepted one writes the element in place, which is
 -- the tracer's part with that element replaced.
-use mathlib.Core.Path.{◌≡◌, sym, ◌∙◌}
+use mathlib.Core.Path.{◌≡◌, sym, ap, ◌∙◌}
 use mathlib.Core.Bool.{true}
 use Prim.Native.Nat.{◌≤◌, ◌+◌, ◌-◌}
 use native.Mathlib.Omega.{arith}
@@ -26,7 +26,7 @@ read : (c : In_ok-sum) → total_reading quadratic c.in_ok-grid.grid.shape c.arg
 read c = sym c.in_ok-sum.ensures
 
 pub returns-then-not-on_grid : goal.returns-then-not-on_grid
-returns-then-not-on_grid c = grid-refused _ _ c.in_ok-grid.ensures.1 (emission-off-grid _ _ _ _ _ _ _ (read (goal.at.returns-then-not-on_grid c).In_ok-sum) (sym c.on_grid.ensures ∙ c.if-not-on_grid.true))
+returns-then-not-on_grid c = grid-refused _ _ _ c.in_ok-grid.ensures.1 (emission-off-grid _ _ _ _ _ _ _ (read (goal.at.returns-then-not-on_grid c).In_ok-sum) (sym c.on_grid.ensures ∙ c.if-not-on_grid.true))
 
 grid : (c : Else-not-on_grid) → on_grid c.in_ok-grid.grid.shape c.args.i c.args.j ≡ true
 grid c = sym c.on_grid.ensures ∙ c.if-not-on_grid.false
@@ -43,7 +43,7 @@ pub returns-then-sum-q : goal.returns-then-sum-q
 returns-then-sum-q c =
     let at = goal.at.returns-then-sum-q c in
     let r = read at.In_ok-sum in
-    grid-refused _ _ c.in_ok-grid.ensures.1 (emission-above _ _ _ _ _ _ _ r (grid at.Else-not-on_grid) (omega (arith, c.if-sum-q.true, (found _ _ _ _ r).small)))
+    grid-refused _ _ _ c.in_ok-grid.ensures.1 (emission-above _ _ _ _ _ _ _ r (grid at.Else-not-on_grid) (omega (arith, c.if-sum-q.true, (found _ _ _ _ r).small)))
 
 pub element_start-start-requires : goal.element_start-start-requires
 element_start-start-requires c = within (goal.at.element_start-start-requires c).Else-not-on_grid
@@ -75,13 +75,13 @@ emit-requires-clause-q_bound c =
 pub returns-in_err-sum : goal.returns-in_err-sum
 returns-in_err-sum c =
     let r = c.from_residual-in_err-sum in
-    let e = grid-refused _ _ c.in_ok-grid.ensures.1 (emission-refused _ _ _ _ _ _ _ (sym c.in_err-sum.ensures)) in
+    let e = grid-refused _ _ _ c.in_ok-grid.ensures.1 (emission-refused _ _ _ _ _ _ _ (sym c.in_err-sum.ensures)) in
     (passed_on r.result _ r.ensures.1 ∙ e.0, e.1)
 
 pub returns-in_err-grid : goal.returns-in_err-grid
 returns-in_err-grid c =
     let a = c.args in
-    let e = call-refused a.shape a.tracer (emission a.i a.j a.q) a.field.now 2 (call-bad-shape a.shape a.tracer (emission a.i a.j a.q) a.field.now c.in_err-grid.ensures.0) in
+    let e = call-refused _ a.shape a.tracer (emission a.i a.j a.q) a.field.now 2 (call-bad-shape a.shape a.tracer (emission a.i a.j a.q) a.field.now c.in_err-grid.ensures.0) in
     (refused-2 a.shape c.from_residual.result _ c.from_residual.ensures.1 c.in_err-grid.ensures ∙ e.0, e.1)
 
 pub returns : goal.returns
@@ -92,10 +92,11 @@ returns c =
     let st = element_start g a.tracer a.i a.j in
     let h = found g a.tracer a.field.now _ (read (goal.at.returns c).In_ok-sum) in
     let w = within (goal.at.returns c).Else-not-on_grid in
-    let e = call-accepted g a.tracer (emission a.i a.j a.q) a.field.now _ (emission-accepted g a.tracer a.i a.j a.q a.field.now _ (read (goal.at.returns c).In_ok-sum) (grid (goal.at.returns c).Else-not-on_grid) (omega (arith, c.if-sum-q.false, h.small))) in
+    let e = call-accepted _ g a.tracer (emission a.i a.j a.q) a.field.now _ (emission-accepted g a.tracer a.i a.j a.q a.field.now _ (read (goal.at.returns c).In_ok-sum) (grid (goal.at.returns c).Else-not-on_grid) (omega (arith, c.if-sum-q.false, h.small))) in
     let k = st + 10 - st in
     let ten-is = add-sub_cancel_left st 10 in
-    let x : c.emit.new.part ≡ emitted quadratic (element g a.i a.j) a.q (part quadratic g a.tracer a.field.now) =
-    c.emit.ensures ∙ (rw c.element_start-start.ensures.start (emitted-lent g a.tracer a.i a.j a.field.now w h.room k ten-is a.q)) in
-    on_shape _ _ _ c.in_ok-grid.ensures.1
-    (e.0, (rw c.element_start-start.ensures.start (back-in-place g a.tracer a.i a.j a.field.now w h.room k ten-is _ _ x (length-emitted quadratic (element g a.i a.j) a.q (part quadratic g a.tracer a.field.now)))) ∙ e.1)
+    let r = c.element_start-start.result in
+    let same : emitted quadratic 0 a.q (take (r + 10 - r) (drop r a.field.now)) ≡ emitted quadratic (element g a.i a.j) a.q (part quadratic g a.tracer a.field.now) =
+    (rw c.element_start-start.ensures.start (emitted-lent g a.tracer a.i a.j a.field.now w h.room k ten-is a.q)) in
+    on_shape _ _ _ _ c.in_ok-grid.ensures.1
+    (ap accepted (c.emit.ensures.clipped ∙ ap (λ y. y.clipped) same) ∙ e.0, (rw c.element_start-start.ensures.start (back-in-place g a.tracer a.i a.j a.field.now w h.room k ten-is _ _ (c.emit.ensures.numbers ∙ ap (λ y. y.numbers) same) (length-emitted quadratic (element g a.i a.j) a.q (part quadratic g a.tracer a.field.now)))) ∙ e.1)

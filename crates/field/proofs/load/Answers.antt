@@ -38,16 +38,16 @@ summed c =
     (rw c.elements-n.ensures at c.loaded_total.ensures) ∙ sym (load-total c.in_ok-grid.grid.shape a.numbers.now)
 
 pub returns-then-field-field_length : goal.returns-then-field-field_length
-returns-then-field-field_length c = on_shape _ _ _ c.in_ok-grid.ensures.1 (load-4-field _ _ _ _ (is-admitted _ c.in_ok-grid.grid.admitted) (omega (arith, c.field_length.ensures)))
+returns-then-field-field_length c = on_shape _ _ _ _ c.in_ok-grid.ensures.1 (load-4-field _ _ _ _ (is-admitted _ c.in_ok-grid.grid.admitted) (omega (arith, c.field_length.ensures)))
 
 pub returns-then-numbers-n : goal.returns-then-numbers-n
-returns-then-numbers-n c = on_shape _ _ _ c.in_ok-grid.ensures.1 (load-4-numbers _ _ _ _ (is-admitted _ c.in_ok-grid.grid.admitted) (room (goal.at.returns-then-numbers-n c).Else-field-field_length) (omega (arith, c.elements-n.ensures)))
+returns-then-numbers-n c = on_shape _ _ _ _ c.in_ok-grid.ensures.1 (load-4-numbers _ _ _ _ (is-admitted _ c.in_ok-grid.grid.admitted) (room (goal.at.returns-then-numbers-n c).Else-field-field_length) (omega (arith, c.elements-n.ensures)))
 
 pub returns-then-grid-tracer : goal.returns-then-grid-tracer
-returns-then-grid-tracer c = on_shape _ _ _ c.in_ok-grid.ensures.1 (load-7 _ _ _ _ (is-admitted _ c.in_ok-grid.grid.admitted) (room (goal.at.returns-then-grid-tracer c).Else-field-field_length) (enough (goal.at.returns-then-grid-tracer c).Else-numbers-n) c.if-grid-tracer.true)
+returns-then-grid-tracer c = on_shape _ _ _ _ c.in_ok-grid.ensures.1 (load-7 _ _ _ _ (is-admitted _ c.in_ok-grid.grid.admitted) (room (goal.at.returns-then-grid-tracer c).Else-field-field_length) (enough (goal.at.returns-then-grid-tracer c).Else-numbers-n) c.if-grid-tracer.true)
 
 pub returns-then-loaded_total-gt-LIMIT : goal.returns-then-loaded_total-gt-LIMIT
-returns-then-loaded_total-gt-LIMIT c = on_shape _ _ _ c.in_ok-grid.ensures.1 (load-9 _ _ _ _ (is-admitted _ c.in_ok-grid.grid.admitted) (room (goal.at.returns-then-loaded_total-gt-LIMIT c).Else-field-field_length) (enough (goal.at.returns-then-loaded_total-gt-LIMIT c).Else-numbers-n) c.if-grid-tracer.false (omega (arith, summed (goal.at.returns-then-loaded_total-gt-LIMIT c).After-loaded_total)))
+returns-then-loaded_total-gt-LIMIT c = on_shape _ _ _ _ c.in_ok-grid.ensures.1 (load-9 _ _ _ _ (is-admitted _ c.in_ok-grid.grid.admitted) (room (goal.at.returns-then-loaded_total-gt-LIMIT c).Else-field-field_length) (enough (goal.at.returns-then-loaded_total-gt-LIMIT c).Else-numbers-n) c.if-grid-tracer.false (omega (arith, summed (goal.at.returns-then-loaded_total-gt-LIMIT c).After-loaded_total)))
 
 -- the part ends within the field
 end : (c : After-elements_length) → c.tracer_start-start.result + c.elements_length.result ≤ field_length quadratic c.in_ok-grid.grid.shape
@@ -76,7 +76,7 @@ returns c =
     let n = c.elements_length.result in
     let at = c.tracer_start-start.result in
     let d = load-done c.in_ok-grid.grid.shape a.tracer a.numbers.now a.field.now (is-admitted _ c.in_ok-grid.grid.admitted) (room (goal.at.returns c).Else-field-field_length) (enough (goal.at.returns c).Else-numbers-n) c.if-grid-tracer.false (omega (arith, summed (goal.at.returns c).After-loaded_total, c.if-loaded_total-gt-LIMIT.false)) in
-    on_shape _ _ _ c.in_ok-grid.ensures.1 (
+    on_shape _ _ _ _ c.in_ok-grid.ensures.1 (
       d.0,
       load-back c.in_ok-grid.grid.shape a.tracer a.numbers.now a.field.now at (at + n - at) c.lay.new.part c.tracer_start-start.ensures (add-sub_cancel_left at n ∙ c.elements_length.ensures)
           (c.lay.ensures ∙ ap (λ m. blocks m (loaded_element quadratic a.numbers.now)) c.elements-n.ensures) ∙ d.1,

@@ -1,6 +1,6 @@
 -- Withdrawal: each refusal is the definition's by what the reading of the mass says; an accepted one writes the element in place, as an
 -- emission does.
-use mathlib.Core.Path.{◌≡◌, sym, ◌∙◌}
+use mathlib.Core.Path.{◌≡◌, sym, ap, ◌∙◌}
 use Prim.Native.Nat.{◌≤◌, ◌+◌, ◌-◌}
 use native.Mathlib.Omega.{arith}
 use native.Mathlib.Nat.{add-sub_cancel_left}
@@ -26,7 +26,7 @@ known c = let a = c.args in
     let g = c.in_ok-grid.grid.shape in held g a.tracer a.i a.j a.field.now _ (read c)
 
 pub returns-then-held-q : goal.returns-then-held-q
-returns-then-held-q c = grid-refused _ _ c.in_ok-grid.ensures.1 (withdrawal-over _ _ _ _ _ _ _ (read (goal.at.returns-then-held-q c).In_ok-held) c.if-held-q.true)
+returns-then-held-q c = grid-refused _ _ _ c.in_ok-grid.ensures.1 (withdrawal-over _ _ _ _ _ _ _ (read (goal.at.returns-then-held-q c).In_ok-held) c.if-held-q.true)
 
 pub element_start-start-requires : goal.element_start-start-requires
 element_start-start-requires c = (known (goal.at.element_start-start-requires c).In_ok-held).within
@@ -61,13 +61,13 @@ withdraw-requires-clause-q_bound c = omega (arith, lent-mass (goal.at.withdraw-r
 pub returns-in_err-held : goal.returns-in_err-held
 returns-in_err-held c =
     let r = c.from_residual-in_err-held in
-    let e = grid-refused _ _ c.in_ok-grid.ensures.1 (withdrawal-refused _ _ _ _ _ _ _ (sym c.in_err-held.ensures)) in
+    let e = grid-refused _ _ _ c.in_ok-grid.ensures.1 (withdrawal-refused _ _ _ _ _ _ _ (sym c.in_err-held.ensures)) in
     (passed_on r.result _ r.ensures.1 ∙ e.0, e.1)
 
 pub returns-in_err-grid : goal.returns-in_err-grid
 returns-in_err-grid c =
     let a = c.args in
-    let e = call-refused a.shape a.tracer (withdrawal a.i a.j a.q) a.field.now 2 (call-bad-shape a.shape a.tracer (withdrawal a.i a.j a.q) a.field.now c.in_err-grid.ensures.0) in
+    let e = call-refused _ a.shape a.tracer (withdrawal a.i a.j a.q) a.field.now 2 (call-bad-shape a.shape a.tracer (withdrawal a.i a.j a.q) a.field.now c.in_err-grid.ensures.0) in
     (refused-2 a.shape c.from_residual.result _ c.from_residual.ensures.1 c.in_err-grid.ensures ∙ e.0, e.1)
 
 pub returns : goal.returns
@@ -79,8 +79,9 @@ returns c =
     let st = element_start g a.tracer a.i a.j in
     let n = st + 10 - st in
     let ten-is = add-sub_cancel_left st 10 in
-    let e = call-accepted g a.tracer (withdrawal a.i a.j a.q) a.field.now _ (withdrawal-accepted g a.tracer a.i a.j a.field.now a.q _ (read (goal.at.returns c).In_ok-held) c.if-held-q.false) in
-    let x : c.withdraw.new.part ≡ withdrawn quadratic (element g a.i a.j) a.q (part quadratic g a.tracer a.field.now) =
-    c.withdraw.ensures ∙ (rw c.element_start-start.ensures.start (withdrawn-lent g a.tracer a.i a.j a.field.now k.within k.room n ten-is a.q)) in
-    on_shape _ _ _ c.in_ok-grid.ensures.1
-    (e.0, (rw c.element_start-start.ensures.start (back-in-place g a.tracer a.i a.j a.field.now k.within k.room n ten-is _ _ x (length-withdrawn quadratic (element g a.i a.j) a.q (part quadratic g a.tracer a.field.now)))) ∙ e.1)
+    let e = call-accepted _ g a.tracer (withdrawal a.i a.j a.q) a.field.now _ (withdrawal-accepted g a.tracer a.i a.j a.field.now a.q _ (read (goal.at.returns c).In_ok-held) c.if-held-q.false) in
+    let r = c.element_start-start.result in
+    let same : withdrawn quadratic 0 a.q (take (r + 10 - r) (drop r a.field.now)) ≡ withdrawn quadratic (element g a.i a.j) a.q (part quadratic g a.tracer a.field.now) =
+    (rw c.element_start-start.ensures.start (withdrawn-lent g a.tracer a.i a.j a.field.now k.within k.room n ten-is a.q)) in
+    on_shape _ _ _ _ c.in_ok-grid.ensures.1
+    (ap accepted (c.withdraw.ensures.clipped ∙ ap (λ y. y.clipped) same) ∙ e.0, (rw c.element_start-start.ensures.start (back-in-place g a.tracer a.i a.j a.field.now k.within k.room n ten-is _ _ (c.withdraw.ensures.numbers ∙ ap (λ y. y.numbers) same) (length-withdrawn quadratic (element g a.i a.j) a.q (part quadratic g a.tracer a.field.now)))) ∙ e.1)

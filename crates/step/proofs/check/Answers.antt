@@ -5,7 +5,7 @@ use lib.Dec.{T, leb→le, leb}
 use lib.ListN.{length}
 use Rattle.whole.proofs.Cases.{both_yes}
 use Rattle.rules.proofs.AnswerLaws.{passed_on}
-use Rattle.rules.specs.Answers.{plain}
+use Rattle.rules.specs.Answers.{mapped, plain}
 use Rattle.rules.specs.Field.{quadratic, admitted, faces, field_length}
 use Rattle.rules.specs.Calls.{wind_sound}
 use Rattle.field_layout.proofs.PlaceLaws.{is-admitted}
@@ -18,7 +18,7 @@ shape_is : (c : Start) → admitted c.args.grid.shape ≡ true
 shape_is c = is-admitted c.args.grid.shape c.args.grid.admitted
 
 pub returns-then-not-lent_enough : goal.returns-then-not-lent_enough
-unfolding plain
+unfolding mapped
 returns-then-not-lent_enough c =
     let a = c.args in
     sym (ap plain (step-4 a.grid.shape a.tracer a.field.now a.wind.now a.report a.work (shape_is (goal.at.returns-then-not-lent_enough c).Start) (sym c.lent_enough.ensures ∙ c.if-not-lent_enough.true)))
@@ -34,7 +34,7 @@ winds_sound-requires c =
     leb→le _ _ (both_yes (leb (faces a.grid.shape) (length a.wind.now)) _ b.1).0
 
 pub returns-then-not-winds_sound : goal.returns-then-not-winds_sound
-unfolding plain
+unfolding mapped
 returns-then-not-winds_sound c =
     let a = c.args in
     sym (ap plain (step-5 a.grid.shape a.tracer a.field.now a.wind.now a.report a.work (shape_is (goal.at.returns-then-not-winds_sound c).Start) (enough-is (goal.at.returns-then-not-winds_sound c).Else-not-lent_enough) (sym c.winds_sound.ensures ∙ c.if-not-winds_sound.true)))
@@ -43,13 +43,13 @@ sound-is : (c : Else-not-winds_sound) → wind_sound c.args.grid.shape c.args.wi
 sound-is c = sym c.winds_sound.ensures ∙ c.if-not-winds_sound.false
 
 pub returns-in_err-total_on : goal.returns-in_err-total_on
-unfolding plain
+unfolding mapped
 returns-in_err-total_on c =
     let a = c.args in
     passed_on c.from_residual.result _ c.from_residual.ensures.1 ∙ sym (ap plain (step-refused a.grid.shape a.tracer a.field.now a.wind.now a.report a.work _ (shape_is (goal.at.returns-in_err-total_on c).Start) (enough-is (goal.at.returns-in_err-total_on c).Else-not-lent_enough) (sound-is (goal.at.returns-in_err-total_on c).Else-not-winds_sound) (sym c.in_err-total_on.ensures)))
 
 pub returns : goal.returns
-unfolding plain
+unfolding mapped
 returns c =
     let a = c.args in
     sym (ap plain (step-accepted a.grid.shape a.tracer a.field.now a.wind.now a.report a.work _ (shape_is (goal.at.returns c).Start) (enough-is (goal.at.returns c).Else-not-lent_enough) (sound-is (goal.at.returns c).Else-not-winds_sound) (sym c.in_ok-total_on.ensures)))

@@ -1,5 +1,5 @@
 -- The step: a refused one leaves every buffer; an accepted one lends the tracer's part and the front of work, and what comes back in
--- place is the definition's field, report and work.
+-- place is the definition's field, report and work, and what is answered its clipped mass.
 use mathlib.Core.Path.{◌≡◌, sym, ap, ◌∙◌}
 use mathlib.Core.List.{◌++◌}
 use Prim.Native.Nat.{◌≤◌, ◌-◌, ◌+◌}
@@ -8,7 +8,8 @@ use native.Mathlib.Omega.{arith}
 use native.Mathlib.Nat.{add-sub_cancel_left}
 use lib.ListN.{length, take, drop}
 use lib.Seq.{length-take-le}
-use Rattle.rules.proofs.AnswerLaws.{passed_on}
+use Rattle.rules.proofs.AnswerLaws.{refused-at-most, accepted-at-most, passed_on, mapped-refused}
+use Rattle.rules.specs.Answers.{accepted}
 use Rattle.rules.specs.Field.{quadratic, part, total}
 use Rattle.rules.specs.Step.{tracer_step}
 use Rattle.rules.specs.Calls.{step, lent, wind_at, done, call}
@@ -18,7 +19,7 @@ use Rattle.rules.specs.Stages.{stages}
 use Rattle.field_layout.proofs.GridLaws.{refused-2}
 use Rattle.field.proofs.CheckLaws.{call-accepted, call-bad-shape}
 use Rattle.field_layout.proofs.PlaceLaws.{field_is, field-le, tracer-room}
-use Rattle.step.proofs.CheckLaws.{Stepping, stepping, plain-refused, report-back, report-accepted, work-accepted, left, on_shape, part-back}
+use Rattle.step.proofs.CheckLaws.{Stepping, stepping, report-back, report-accepted, work-accepted, left, on_shape, part-back}
 use Rattle.step.proofs.step.Goals as goal
 use Rattle.step.proofs.step.Goals.{After-elements_length, After-work_needed-needed, In_ok-check}
 
@@ -87,7 +88,8 @@ returns-in_err-grid c =
     let a = c.args in
     let op = step (lent a.wind.now a.report.now a.work.now) in
     let p = left a.shape a.tracer op a.field.now a.report.now a.work.now 2 (call-bad-shape a.shape a.tracer op a.field.now c.in_err-grid.ensures.0) in
-    (refused-2 a.shape c.from_residual.result _ c.from_residual.ensures.1 c.in_err-grid.ensures ∙ p.0, p.1)
+    let e = refused-2 a.shape c.from_residual.result _ c.from_residual.ensures.1 c.in_err-grid.ensures in
+    record { gives = (e ∙ p.0, p.1); bound = refused-at-most _ 2 e }
 
 pub returns-in_err-check : goal.returns-in_err-check
 returns-in_err-check c =
@@ -95,40 +97,45 @@ returns-in_err-check c =
     let g = c.in_ok-grid.grid.shape in
     let op = step (lent a.wind.now a.report.now a.work.now) in
     let r = c.from_residual-in_err-check in
-    let p = on_shape _ a.tracer op a.field.now a.report.now a.work.now c.in_ok-grid.ensures.1 (left g a.tracer op a.field.now a.report.now a.work.now _ (plain-refused (call quadratic g a.tracer op a.field.now).reply _ (sym c.in_err-check.ensures))) in
-    (passed_on r.result _ r.ensures.1 ∙ p.0, p.1)
+    let p = on_shape _ a.tracer op a.field.now a.report.now a.work.now c.in_ok-grid.ensures.1 (left g a.tracer op a.field.now a.report.now a.work.now _ (mapped-refused (λ x. tt) (call quadratic g a.tracer op a.field.now).reply _ (sym c.in_err-check.ensures))) in
+    let e = passed_on r.result _ r.ensures.1 in
+    record { gives = (e ∙ p.0, p.1); bound = refused-at-most _ _ e }
 
 pub shape_of-work : goal.shape_of-work
 shape_of-work c = search rules
 
-pub returns : goal.returns
+pub returns-clause-gives : goal.returns-clause-gives
 unfolding done tracer_step
-returns c =
+returns-clause-gives c =
     let a = c.args in
     let g = c.in_ok-grid.grid.shape in
     let s = c.tracer_start-start in
     let n = c.elements_length.result in
-    let h = facts (goal.at.returns c).In_ok-check in
+    let h = facts (goal.at.returns-clause-gives c).In_ok-check in
     let l = lent a.wind.now a.report.now a.work.now in
     let w = wind_at a.wind.now in
     let p = part quadratic g a.tracer a.field.now in
     let x = c.step.new.work in
     let y = c.step.new.report in
-    let there = works-there (goal.at.returns c).After-work_needed-needed h in
-    let report : y ≡ (tracer_step quadratic g w p).report = c.step.ensures.report_after ∙ ap (λ x. (tracer_step quadratic g w x).report) (lent_is (goal.at.returns c).After-elements_length) in
+    let there = works-there (goal.at.returns-clause-gives c).After-work_needed-needed h in
+    let same = ap (tracer_step quadratic g w) (lent_is (goal.at.returns-clause-gives c).After-elements_length) in
+    let report : y ≡ (tracer_step quadratic g w p).report = c.step.ensures.report_after ∙ ap (λ d. d.report) same in
     let e = h.answers in
-    let q = call-accepted g a.tracer (step l) a.field.now _ e in
+    let q = call-accepted (λ x. x.clipped) g a.tracer (step l) a.field.now _ e in
     on_shape _ a.tracer (step l) a.field.now a.report.now a.work.now c.in_ok-grid.ensures.1 (
-      q.0,
+      ap accepted (c.step.ensures.clipped_after ∙ ap (λ d. d.clipped) same) ∙ q.0,
       (
         part-back g a.tracer s.result (s.result + n - s.result) _ (tracer_step quadratic g w p).part a.field.now s.ensures (add-sub_cancel_left s.result n ∙ c.elements_length.ensures)
-            (c.step.ensures.part_after ∙ ap (λ x. (tracer_step quadratic g w x).part) (lent_is (goal.at.returns c).After-elements_length)) (length-after quadratic g h.shape.nx-above h.shape.ny-above w p (stages quadratic g w p)) ∙ q.1,
+            (c.step.ensures.part_after ∙ ap (λ d. d.part) same) (length-after quadratic g h.shape.nx-above h.shape.ny-above w p (stages quadratic g w p)) ∙ q.1,
         (
           report-back c.faces-faces.result _ a.report.now (c.faces-faces.ensures ∙ sym (report-length quadratic g h.shape.nx-above h.shape.ny-above w p (stages quadratic g w p))) report ∙ report-accepted _ _ a.report.now e,
           work-accepted g _ _ a.work.now x _ e (ap (λ k. x ++ drop k a.work.now) c.work_needed-needed.ensures) (search rules) (search rules),
         ),
       ),
     )
+
+pub returns-clause-bound : goal.returns-clause-bound
+returns-clause-bound c = accepted-at-most _ _ c.step.ensures.upper_bound
 
 pub invariant_of-step : goal.invariant_of-step
 invariant_of-step c = record { in_range = (facts (goal.at.invariant_of-step c).In_ok-check).wind-range }

@@ -2,6 +2,7 @@ use Rattle.std.proofs.Common.{rules, tests, arith}
 use mir.Syntax.{w64}
 use Rattle.whole.proofs.ChainSums.{below-items, below-sum_ℤ, below-fits_ℤ, serves-below}
 use Rattle.whole.proofs.Sizes.{sizes, fits, read_back}
+use Rattle.rules.specs.Field.{quadratic}
 use Rattle.limiter.proofs.Laws.{term, term-fits, term-is, terms-within}
 use Rattle.limiter.proofs.Closing.weighted_sum.Goals as goal
 use Rattle.limiter.proofs.Closing.weighted_sum.Goals.{Start}
@@ -15,6 +16,7 @@ sum-requires-clause-fits c =
     below-fits_ℤ (term p) 9 (below-items _ (term p) _ 9 (λ x r q h k. let t = c.args.self.tentative in search (rules, tests, term-is)) c.map.ensures.source c.map.ensures.closure) (λ m l. let h = terms-within p m c.args.self.tentative l in fits (search sizes depth 20) tt)
 
 pub returns : goal.returns
+unfolding quadratic
 returns c =
     let p = c.args.self.psi.now in
     let b = terms-within p 9 c.args.self.tentative (omega arith) in

@@ -34,7 +34,7 @@ unfolding rescaled_value
 stored c =
     let r = c.args.self in
     let k : c.loop-k.k < 9 = omega (arith, c.loop-k-test.true, length-take-le 9 c.args.part.now (omega (arith, c.requires))) in
-    let e = c.rescale-y.ensures ∙ (λ i. rescaled (c.sum-p.ensures i) r.closing.target (c.truncated.ensures.value i)) in
+    let e = c.rescale-y.ensures ∙ (λ i. rescaled (c.truncated_sum-p.ensures i) r.closing.target (c.truncated.ensures.value i)) in
     (k, e, omega (arith, e, new_value-le r.closing.psi.now r.shift r.closing.target c.loop-k.k k))
 
 pub overflow_cast-number : goal.overflow_cast-number
@@ -68,13 +68,17 @@ ended c =
     let e : l.k ≡ 9 = omega (arith, c.loop-k-test.false, n, l.invariant.0.within) in
     (omega (arith, e), (rw e at l.invariant.1) ∙ weighted_to-all (made c.args.self), omega (arith, l.invariant.1, made-le c.args.self l.k (omega (arith, e))))
 
-pub returns : goal.returns
+pub returns-clause-numbers : goal.returns-clause-numbers
 unfolding closed_unlevelled closing_remainder quadratic
-returns c =
+returns-clause-numbers c =
     let r = c.args.self in
     let p = c.args.part.now in
-    let e = ended (goal.at.returns c).After-loop-k in
-    rw (filled-whole c.loop-k.invariant.0 e.0 (nine (goal.at.returns c).Start), e.1) (fill-last 9 (made r) p (closing_remainder quadratic (cut_value r.closing.psi.now r.shift) r.closing.target) c.requires)
+    let e = ended (goal.at.returns-clause-numbers c).After-loop-k in
+    rw (filled-whole c.loop-k.invariant.0 e.0 (nine (goal.at.returns-clause-numbers c).Start), e.1) (fill-last 9 (made r) p (closing_remainder quadratic (cut_value r.closing.psi.now r.shift) r.closing.target) c.requires)
 
 pub overflow_sub-part : goal.overflow_sub-part
 overflow_sub-part c = (ended (goal.at.overflow_sub-part c).After-loop-k).2
+
+pub returns-clause-clipped : goal.returns-clause-clipped
+unfolding closed_unlevelled
+returns-clause-clipped c = c.clipped.ensures.value

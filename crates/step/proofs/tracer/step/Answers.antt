@@ -8,7 +8,7 @@ use Rattle.rules.specs.Field.{limit}
 use Rattle.rules.specs.Sizes.{stage_size, earlier_sum_size, flux_size, tentative_size}
 use Rattle.rules.specs.Step.{tracer_step}
 use Rattle.field_layout.proofs.PlaceLaws.{elements-are}
-use Rattle.step.proofs.TracerLaws.{Given, mass-small, phi, sums, phi-small, phi0-small, earlier-small, psi-small, stored, passed-1, passed-2, advanced, together-small, put_together, fluxed, fluxes-small, weighed, drained, reported, amounts-of, balance-of, all_closed}
+use Rattle.step.proofs.TracerLaws.{Given, mass-small, phi, sums, phi-small, phi0-small, earlier-small, psi-small, stored, passed-1, passed-2, advanced, together-small, put_together, fluxed, fluxes-small, masses, weighed, drained, limited, reported, amounts-of, balance-of, all_closed, all_clipped}
 use Rattle.step.proofs.tracer.step.Goals as goal
 use Rattle.step.proofs.tracer.step.Goals.{After-split_at_mut-outflows, After-start, After-fill, After-advance, After-advance-2, After-advance-3, After-combine, After-fluxes, After-masses, After-outflows, After-limit, Start}
 
@@ -127,33 +127,38 @@ finish-requires-clause-all_within c =
     let h = given (goal.at.finish-requires-clause-all_within c).Start in
     subst (AllWithin tentative_size) (sym (at-3 (goal.at.finish-requires-clause-all_within c).After-advance-3 h)) (psi-small h)
 
+-- the masses, and the report
+reported-at : (c : After-limit) (h : Given c.args.winds.grid.shape c.args.winds.wind.now c.args.part.now) → (c.masses.new.masses ≡ masses h) × (c.limit.new.report ≡ limited h)
+reported-at c h =
+    let n = c.elements-n.ensures in
+    let k = c.split_at_mut-sums.ensures.front_len in
+    let p = passed-1 h c.start.ensures (omega (arith, k, n)) (c.fill.ensures.after (λ y e. e)) c.advance.ensures.sums_after c.advance.ensures.next_after in
+    let q = passed-2 h p c.advance-2.ensures.sums_after c.advance-2.ensures.next_after in
+    let v = put_together h (length c.advance-3.new.sums) (omega (arith, k, n)) q.0 q.1.0 q.1.1.0 c.combine.ensures in
+    let f = fluxed h v c.fluxes.ensures in
+    let m = weighed h (c.split_at_mut-masses.ensures.front_len ∙ n) c.masses.ensures in
+    (m, reported h f (drained h f c.outflows.ensures) m c.limit.ensures)
+
 pub finish-requires-clause-balance : goal.finish-requires-clause-balance
 finish-requires-clause-balance c =
     let h = given (goal.at.finish-requires-clause-balance c).Start in
-    let q = at-2 (goal.at.finish-requires-clause-balance c).After-advance-2 h in
-    let v = put_together h (length c.advance-3.new.sums) (omega (arith, c.split_at_mut-sums.ensures.front_len, c.elements-n.ensures)) q.0 q.1.0 q.1.1.0 c.combine.ensures in
-    let f = fluxed h v c.fluxes.ensures in
-    let m = weighed h (c.split_at_mut-masses.ensures.front_len ∙ c.elements-n.ensures) c.masses.ensures in
-    let r = reported h f (drained h f c.outflows.ensures) m c.limit.ensures in
-    balance-of h m r
+    let r = reported-at (goal.at.finish-requires-clause-balance c).After-limit h in
+    balance-of h r.0 r.1
 
 pub returns-clause-part_after : goal.returns-clause-part_after
 unfolding tracer_step
 returns-clause-part_after c =
     let h = given (goal.at.returns-clause-part_after c).Start in
-    let q = at-2 (goal.at.returns-clause-part_after c).After-advance-2 h in
-    let v = put_together h (length c.advance-3.new.sums) (omega (arith, c.split_at_mut-sums.ensures.front_len, c.elements-n.ensures)) q.0 q.1.0 q.1.1.0 c.combine.ensures in
-    let f = fluxed h v c.fluxes.ensures in
-    let m = weighed h (c.split_at_mut-masses.ensures.front_len ∙ c.elements-n.ensures) c.masses.ensures in
-    let r = reported h f (drained h f c.outflows.ensures) m c.limit.ensures in
-    all_closed h (at-3 (goal.at.returns-clause-part_after c).After-advance-3 h) m r c.finish.ensures
+    let r = reported-at (goal.at.returns-clause-part_after c).After-limit h in
+    all_closed h (at-3 (goal.at.returns-clause-part_after c).After-advance-3 h) r.0 r.1 c.finish.ensures.numbers
 
 pub returns-clause-report_after : goal.returns-clause-report_after
 unfolding tracer_step
-returns-clause-report_after c =
-    let h = given (goal.at.returns-clause-report_after c).Start in
-    let q = at-2 (goal.at.returns-clause-report_after c).After-advance-2 h in
-    let v = put_together h (length c.advance-3.new.sums) (omega (arith, c.split_at_mut-sums.ensures.front_len, c.elements-n.ensures)) q.0 q.1.0 q.1.1.0 c.combine.ensures in
-    let f = fluxed h v c.fluxes.ensures in
-    let m = weighed h (c.split_at_mut-masses.ensures.front_len ∙ c.elements-n.ensures) c.masses.ensures in
-    reported h f (drained h f c.outflows.ensures) m c.limit.ensures
+returns-clause-report_after c = (reported-at (goal.at.returns-clause-report_after c).After-limit (given (goal.at.returns-clause-report_after c).Start)).1
+
+pub returns-clause-clipped_after : goal.returns-clause-clipped_after
+unfolding tracer_step
+returns-clause-clipped_after c =
+    let h = given (goal.at.returns-clause-clipped_after c).Start in
+    let r = reported-at (goal.at.returns-clause-clipped_after c).After-limit h in
+    all_clipped h (at-3 (goal.at.returns-clause-clipped_after c).After-advance-3 h) r.0 r.1 c.finish.ensures.clipped

@@ -1,9 +1,9 @@
 use Rattle.std.proofs.Common.{rules, tests, ◌*◌, ◌∙◌, ℕ, arith}
 use Rattle.whole.proofs.ChainSums.{below-items, below-sum, below-fits, serves-below}
 use Rattle.rules.specs.Field.{quadratic}
-use Rattle.limiter.proofs.Laws.{cut_value, cut_sum-le, weighted_to-all, weighted-fits}
-use Rattle.limiter.proofs.Raised.sum.Goals as goal
-use Rattle.limiter.proofs.Raised.sum.Goals.{Start}
+use Rattle.limiter.proofs.Laws.{cut_value, cut_sum, weighted_to-all, weighted-fits}
+use Rattle.limiter.proofs.Raised.truncated_sum.Goals as goal
+use Rattle.limiter.proofs.Raised.truncated_sum.Goals.{Start}
 
 -- the nine terms
 abbrev term : Start → ℕ → ℕ
@@ -16,7 +16,7 @@ pub sum-requires-clause-fits : goal.sum-requires-clause-fits
 sum-requires-clause-fits c =
     let a = c.args.self in
     let t = term (goal.at.sum-requires-clause-fits c).Start in
-    below-fits t 9 (below-items _ t _ 9 (λ x r q h k. search (rules, tests)) c.map.ensures.source c.map.ensures.closure) (omega (arith, cut_sum-le a.closing.psi.now a.shift a.closing.tentative a.small 9 (omega arith)))
+    below-fits t 9 (below-items _ t _ 9 (λ x r q h k. search (rules, tests)) c.map.ensures.source c.map.ensures.closure) (omega (arith, weighted_to-all (cut_value a.closing.psi.now a.shift), cut_sum a.closing.psi.now a.shift a.closing.tentative a.small))
 
 pub returns : goal.returns
 returns c =
