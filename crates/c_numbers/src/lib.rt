@@ -28,7 +28,8 @@ fn negated(r: Refusal) -> i64
     -i64::from(u8::from(r))
 }
 
-// The number that is answered, or the refusal's number negated. A leaf: the number is at most the largest that a call answers, a step's clipped mass.
+// The number that is answered, or the refusal's number negated. A leaf: the number is at most the largest that a call answers, a step's clipped
+// mass.
 pub fn number_or(answer: Result<u64, Refusal>) -> i64
     requires { AtMost most_answered (answered answer) }
     ensures { Are most_answered result (number_or (answered answer)) }

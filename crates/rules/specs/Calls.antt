@@ -59,6 +59,7 @@ pub record Reply : Type 0 where
   pub report : List ℤ
   pub clipped : ℕ
 
+-- no report, and this clipped mass
 abbrev pub no_report : ℕ → Reply
 no_report clipped = record { report = []; clipped = clipped }
 
@@ -263,8 +264,9 @@ module _ (κ : Kind) (g : Shape) where
   -- a step of tracer s, which is lent report and work, too
   abbrev pub StepGives : ℕ → List ℕ → List ℤ → List ℤ → List ℤ → (Answer ℕ → Type 0) → List ℕ → List ℤ → List ℤ → Type 0
   StepGives s field wind report work told field' report' work' =
-      let a = (call κ g s (step (lent wind report work)) field).reply in
-      told (clipped_mass a) × ((field' ≡ (call κ g s (step (lent wind report work)) field).field) × ((report' ≡ report_after a report) × WorkAfter g a work work'))
+      let op : Operation Lent = step (lent wind report work) in
+      let a = (call κ g s op field).reply in
+      told (mapped (tell op) a) × ((field' ≡ (call κ g s op field).field) × ((report' ≡ report_after a report) × WorkAfter g a work work'))
 
   abbrev pub FreshGives : List ℕ → List ℤ → (Answer (Unit {0}) → Type 0) → List ℕ → List ℤ → Type 0
   FreshGives field wind told field' wind' = told (fresh_reply κ g field wind) × ((field' ≡ fresh_field κ g field wind) × (wind' ≡ fresh_wind κ g field wind))

@@ -1,5 +1,5 @@
--- The sizes of the numbers that a step and a closing make, as the leaves of the code ask and ensure them, and of what a step answers. They are round, and loose where
--- they only keep sums within 64 bits; `StageBounds` has the sharp ones.
+-- The sizes of the numbers that a step and a closing make, as the leaves of the code ask and ensure them, and of what a step answers. They are
+-- round, and loose where they only keep sums within 64 bits; `StageBounds` has the sharp ones.
 use Rattle.std.specs.Prelude.{ℕ, ◌+◌, ◌*◌}
 use Rattle.rules.specs.Field.{limit}
 

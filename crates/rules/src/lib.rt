@@ -48,8 +48,8 @@ pub enum WindRecord {
     East(f64),
 }
 
-// Why a call was refused, in the order of the refusals' numbers. Every call answers a Result with it: () where the call changes something, a
-// number where it is a reading or writes a file, the shape where it answers one.
+// Why a call was refused, in the order of the refusals' numbers. Every call answers a Result with it: () of wind, import, fresh and load; a number of
+// emission, withdrawal and step (the clipped mass), of a reading and of file writing; the shape of file reading.
 #[derive(Clone, Copy)]
 pub enum Refusal {
     // 1: the end of the file is not that of a field file

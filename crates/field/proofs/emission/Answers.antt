@@ -97,6 +97,6 @@ returns c =
     let ten-is = add-sub_cancel_left st 10 in
     let r = c.element_start-start.result in
     let same : emitted quadratic 0 a.q (take (r + 10 - r) (drop r a.field.now)) ≡ emitted quadratic (element g a.i a.j) a.q (part quadratic g a.tracer a.field.now) =
-    (rw c.element_start-start.ensures.start (emitted-lent g a.tracer a.i a.j a.field.now w h.room k ten-is a.q)) in
+    rw c.element_start-start.ensures.start (emitted-lent g a.tracer a.i a.j a.field.now w h.room k ten-is a.q) in
     on_shape _ _ _ _ c.in_ok-grid.ensures.1
     (ap accepted (c.emit.ensures.clipped ∙ ap (λ y. y.clipped) same) ∙ e.0, (rw c.element_start-start.ensures.start (back-in-place g a.tracer a.i a.j a.field.now w h.room k ten-is _ _ (c.emit.ensures.numbers ∙ ap (λ y. y.numbers) same) (length-emitted quadratic (element g a.i a.j) a.q (part quadratic g a.tracer a.field.now)))) ∙ e.1)

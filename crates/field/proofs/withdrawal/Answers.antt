@@ -82,6 +82,6 @@ returns c =
     let e = call-accepted _ g a.tracer (withdrawal a.i a.j a.q) a.field.now _ (withdrawal-accepted g a.tracer a.i a.j a.field.now a.q _ (read (goal.at.returns c).In_ok-held) c.if-held-q.false) in
     let r = c.element_start-start.result in
     let same : withdrawn quadratic 0 a.q (take (r + 10 - r) (drop r a.field.now)) ≡ withdrawn quadratic (element g a.i a.j) a.q (part quadratic g a.tracer a.field.now) =
-    (rw c.element_start-start.ensures.start (withdrawn-lent g a.tracer a.i a.j a.field.now k.within k.room n ten-is a.q)) in
+    rw c.element_start-start.ensures.start (withdrawn-lent g a.tracer a.i a.j a.field.now k.within k.room n ten-is a.q) in
     on_shape _ _ _ _ c.in_ok-grid.ensures.1
     (ap accepted (c.withdraw.ensures.clipped ∙ ap (λ y. y.clipped) same) ∙ e.0, (rw c.element_start-start.ensures.start (back-in-place g a.tracer a.i a.j a.field.now k.within k.room n ten-is _ _ (c.withdraw.ensures.numbers ∙ ap (λ y. y.numbers) same) (length-withdrawn quadratic (element g a.i a.j) a.q (part quadratic g a.tracer a.field.now)))) ∙ e.1)
