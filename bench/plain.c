@@ -171,13 +171,31 @@ static uint64_t close_element(uint32_t *part, const int64_t *psi, uint64_t t)
     return (uint64_t)((int64_t)p - (s + 36 * shift));
 }
 
+/* q of each face, over the amounts. */
+static void hold(int64_t *work, const int32_t *report, size_t n)
+{
+    for (size_t f = 0; f < 2 * n; f++)
+        work[45 * n + f] = (work[45 * n + f] - report[f]) / 6;
+}
+
+/* psi of an element with what its faces add. */
+static void with_held(int64_t *to, const int64_t *psi, const int64_t *held, size_t n, size_t e, struct around a)
+{
+    int64_t x[3] = {-held[a.west], 0, held[e]};
+    int64_t y[3] = {-held[n + a.south], 0, held[n + e]};
+    for (int k = 0; k < 9; k++)
+        to[k] = psi[k] + x[k % 3] + y[k / 3];
+}
+
 static uint64_t finish(uint32_t *part, const int64_t *work, const int32_t *report, size_t nx, size_t n)
 {
     uint64_t clipped = 0;
     for (size_t e = 0; e < n; e++) {
         struct around a = around(nx, n, e);
         int64_t t = work[47 * n + e] - report[e] + report[a.west] - report[n + e] + report[n + a.south];
-        clipped += close_element(part + 10 * e, work + 27 * n + 9 * e, (uint64_t)t);
+        int64_t psi[9];
+        with_held(psi, work + 27 * n + 9 * e, work + 45 * n, n, e, a);
+        clipped += close_element(part + 10 * e, psi, (uint64_t)t);
     }
     return clipped;
 }
@@ -224,5 +242,6 @@ int64_t plain_step(uint32_t *field, size_t field_count, const int16_t *wind, siz
     fluxes(work, wind, nx, n);
     amounts(work, part, nx, n);
     limit(work, report, nx, n);
+    hold(work, report, n);
     return (int64_t)finish(part, work, report, nx, n);
 }

@@ -1,9 +1,9 @@
 //! Reference implementation of document 01, "Smoke transport with
-//! whole-number TMAR", and of four requests of document 02, "Further changes
+//! whole-number TMAR", and of five requests of document 02, "Further changes
 //! requested by customers": 2026-01, "Wind from the weather office", 2026-02,
-//! "Face amounts to the nearest", 2026-03, "A map on the printer", and 2026-04,
-//! "Tell me how much was cut". It is written from the texts alone; no other
-//! request is in it.
+//! "Face amounts to the nearest", 2026-03, "A map on the printer", 2026-04,
+//! "Tell me how much was cut", and 2026-05, "Held smoke stays by its face". It
+//! is written from the texts alone; no other request is in it.
 //!
 //! Every call answers `Result<_, u8>`; the error is the refusal's number.
 //! Quotations in comments are sentences of document 01, or of a request where
@@ -16,6 +16,8 @@ pub mod face_wind;
 pub mod file;
 pub mod flux;
 pub mod generator;
+pub mod held;
+pub mod held_map;
 pub mod import;
 pub mod import_generator;
 pub mod import_numbers;

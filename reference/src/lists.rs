@@ -65,6 +65,11 @@ impl State {
         }
     }
 
+    /// The error is refusal 2.
+    pub fn shape(&self) -> Result<Shape, u8> {
+        Shape::checked(self.nx, self.ny, self.k)
+    }
+
     pub fn run(&mut self, call: &Call) -> Answer {
         self.attempt(call).unwrap_or_else(Answer::Refused)
     }
@@ -194,14 +199,20 @@ fn grid(line: &str) -> Result<State, String> {
     ))
 }
 
-/// Runs a script and gives what is printed. Blank lines are passed over.
-pub fn output(script: &str) -> Result<String, String> {
+/// A script's state at the start, and its calls. Blank lines are passed over.
+pub fn parsed(script: &str) -> Result<(State, Vec<Call>), String> {
     let mut lines = script.lines().filter(|line| !line.trim().is_empty());
-    let mut state = grid(lines.next().unwrap_or(""))?;
+    let state = grid(lines.next().unwrap_or(""))?;
+    let call = |line: &str| line.parse().map_err(|what| format!("{what} in: {line}"));
+    Ok((state, lines.map(call).collect::<Result<_, _>>()?))
+}
+
+/// Runs a script and gives what is printed.
+pub fn output(script: &str) -> Result<String, String> {
+    let (mut state, calls) = parsed(script)?;
     let mut text = String::new();
-    for line in lines {
-        let call: Call = line.parse().map_err(|what| format!("{what} in: {line}"))?;
-        text.push_str(&format!("{}\n", state.run(&call)));
+    for call in &calls {
+        text.push_str(&format!("{}\n", state.run(call)));
     }
     text.push_str(&joined("field", &state.field));
     text.push('\n');

@@ -1,4 +1,4 @@
-use reference::{generator, lists, map_program, program, random_file, Shape};
+use reference::{generator, held_map, lists, map_program, program, random_file, Shape};
 use std::io::{self, Read, Write};
 use std::process::ExitCode;
 use std::str::FromStr;
@@ -6,6 +6,7 @@ use std::str::FromStr;
 const USAGE: &str = "usage: reference program < FILE
        reference map < FILE
        reference lists < SCRIPT
+       reference held < SCRIPT
        reference random SEED NX NY K COUNT
        reference field SEED NX NY K [KIND]";
 
@@ -30,10 +31,8 @@ fn answer(words: &[String]) -> Result<Vec<u8>, String> {
     match words[..] {
         ["program"] => Ok(program::output(&input()?).into_bytes()),
         ["map"] => Ok(map_program::output(&input()?).into_bytes()),
-        ["lists"] => {
-            let script = String::from_utf8(input()?).map_err(|_| "the script is not text")?;
-            Ok(lists::output(&script)?.into_bytes())
-        }
+        ["lists"] => Ok(lists::output(&script()?)?.into_bytes()),
+        ["held"] => Ok(held_map::output(&script()?)?.into_bytes()),
         ["random", seed, nx, ny, k, count] => {
             let (nx, ny, k) = (number(nx)?, number(ny)?, number(k)?);
             let script = generator::script(number(seed)?, nx, ny, k, number(count)?);
@@ -62,6 +61,10 @@ fn no_shape(refusal: u8) -> String {
 fn number<T: FromStr>(word: &str) -> Result<T, String> {
     word.parse()
         .map_err(|_| format!("bad number {word}\n{USAGE}"))
+}
+
+fn script() -> Result<String, String> {
+    String::from_utf8(input()?).map_err(|_| "the script is not text".to_string())
 }
 
 fn input() -> Result<Vec<u8>, String> {

@@ -4,6 +4,7 @@ use crate::calls::signed_values;
 use crate::checks::{element_mass, long_enough, smoke_exists, smoke_sound, winds_in_range};
 use crate::closing::{close, floor_div, Nodes};
 use crate::flux::{corrected, face_amounts, face_elements};
+use crate::held::{keep_by_faces, Held};
 use crate::shape::{Shape, PER_ELEMENT};
 use crate::tendency::{tendencies, Winds};
 
@@ -12,6 +13,24 @@ use crate::tendency::{tendencies, Winds};
 /// Answers the clipped mass of all its elements (request 2026-04).
 #[allow(clippy::too_many_arguments)]
 pub fn step(
+    field: &mut [u32],
+    wind: &[i16],
+    report: &mut [i32],
+    work: &mut [i64],
+    nx: usize,
+    ny: usize,
+    k: usize,
+    smoke: usize,
+) -> Result<u64, u8> {
+    let held = Held::ByItsFace;
+    step_with(held, field, wind, report, work, nx, ny, k, smoke)
+}
+
+/// The step under either rule for held smoke (request 2026-05); all else is
+/// alike.
+#[allow(clippy::too_many_arguments)]
+pub fn step_with(
+    held: Held,
     field: &mut [u32],
     wind: &[i16],
     report: &mut [i32],
@@ -33,7 +52,7 @@ pub fn step(
     let winds = Winds { shape, faces: wind };
     let start = shape.place(smoke, 0, 0);
     let part = &mut field[start..start + shape.smoke_len()];
-    let (moved, clipped) = advance(&winds, part);
+    let (moved, clipped) = advance(held, &winds, part);
     for (face, &g) in moved.iter().enumerate() {
         report[face] = i32::try_from(g).expect("no face moves more than its donor's M");
     }
@@ -41,18 +60,22 @@ pub fn step(
 }
 
 /// Steps one smoke's elements and answers every G* and the clipped mass.
-fn advance(winds: &Winds, part: &mut [u32]) -> (Vec<i128>, u64) {
+fn advance(held: Held, winds: &Winds, part: &mut [u32]) -> (Vec<i128>, u64) {
     let elements = || part.chunks_exact(PER_ELEMENT);
     let phi0: Vec<Nodes> = elements().map(signed_values).collect();
     // "dropping ρ from M" is among the easy mistakes: M includes it.
     let masses: Vec<i128> = elements().map(|e| i128::from(element_mass(e))).collect();
 
-    let (stages, psi) = stages(winds, phi0);
+    let (stages, mut psi) = stages(winds, phi0);
     let amounts = face_amounts(winds, [&stages[0], &stages[1], &stages[2]]);
     let moved = corrected(winds.shape, &amounts, &masses);
     let targets = targets(winds.shape, &masses, &moved);
+    if held == Held::ByItsFace {
+        keep_by_faces(winds.shape, &mut psi, &amounts, &moved);
+    }
     // Document 02, 2026-04: "A step gives the sum of this over its elements".
-    // No |ψ| reaches 10^10, so the sum over 4096 elements stays below 2^52.
+    // No |ψ| reaches 1.5 · 10^10 and no levelled number twice that, so the sum
+    // over 4096 elements stays below 2^52.
     let mut clipped = 0;
     for (at, element) in part.chunks_exact_mut(PER_ELEMENT).enumerate() {
         let closed = close(&psi[at], targets[at]);

@@ -123,7 +123,8 @@ const EAST: [i16; 4] = [1024, 1024, 0, 0];
 
 /// West t0 = 1 −1 −3, t1 = 0 0 −2, t2 = 0 −1 −3; east t0 = 6 0 0, t1 = −3 1
 /// −2, t2 = 2 0 0. So ψ is 0 −1 1 and 1 0 −1. G = 19.5, to 20, and −6, both
-/// out of the west's 24: 18 and −5. T = 1 and 23, and nothing is levelled:
+/// out of the west's 24: 18 and −5. What is held back, 2 and −1, is below 6,
+/// so request 2026-05 moves nothing. T = 1 and 23, and nothing is levelled:
 /// west P = 6 with a weighted sum of −18, east P = 6 with one of 0.
 const BOTH_CUT: ByHand = ByHand {
     before: [[0, 0, 4], [0, 0, 0]],
@@ -135,15 +136,31 @@ const BOTH_CUT: ByHand = ByHand {
 
 /// West t0 = 10 −10 −30, t1 = 5 0 −20, t2 = 1 −6 −24; east t0 = 60 0 0,
 /// t1 = −30 15 −15, t2 = 31 2 4. So ψ is 3 −6 15 and 25 3 0. G = 237 and −24,
-/// both out of the west's 240: 217 and −22. T = 1 and 239. The west is
-/// levelled by floor(37 / 36) = 1, to 4 −5 16: P = 120 with a weighted sum of
-/// 0. The east has nothing negative.
+/// both out of the west's 240: 217 and −22. Held back are 20 and −2, so at the
+/// first face the west's nodes rise and the east's fall by 3: 3 −6 18 and
+/// 22 3 0. T = 1 and 239. The west is levelled by floor(19 / 36) = 0: P = 126
+/// with a weighted sum of −18. The east, levelled by floor(35 / 36) = 0, has
+/// nothing negative.
 const WEST_CUT: ByHand = ByHand {
     before: [[0, 0, 40], [0, 0, 0]],
-    after: [[0, 0, 0], [25, 3, 0]],
-    remainders: [1, 17],
+    after: [[0, 0, 0], [22, 3, 0]],
+    remainders: [1, 35],
     report: [217, -22, 0, 0],
-    clipped: 120,
+    clipped: 144,
+};
+
+/// West t0 = 7 −7 −21, t1 = 3 0 −14, t2 = 0 −5 −17; east t0 = 42 0 0,
+/// t1 = −21 10 −11, t2 = 22 2 3. So ψ is 1 −5 10 and 18 3 0. G = 166.5, to 166,
+/// and −18, both out of the west's 168: 151 and −16. Held back are 15 and −2,
+/// so ψ becomes 1 −5 12 and 16 3 0. T = 1 and 167. The west is levelled by
+/// floor(43 / 36) = 1, to 2 −4 13: P = 90 with a weighted sum of −6. The east
+/// is levelled by floor(−1 / 36) = −1, to 15 2 −1: P = 138 with one of 132.
+const EAST_LEVELLED_DOWN: ByHand = ByHand {
+    before: [[0, 0, 28], [0, 0, 0]],
+    after: [[0, 0, 0], [15, 2, 0]],
+    remainders: [1, 29],
+    report: [151, -16, 0, 0],
+    clipped: 96 + 6,
 };
 
 /// Even smoke in an even wind: nothing is cut.
@@ -155,7 +172,7 @@ const NONE_CUT: ByHand = ByHand {
     clipped: 0,
 };
 
-const BY_HAND: [ByHand; 3] = [BOTH_CUT, WEST_CUT, NONE_CUT];
+const BY_HAND: [ByHand; 4] = [BOTH_CUT, WEST_CUT, NONE_CUT, EAST_LEVELLED_DOWN];
 
 #[test]
 fn steps_by_hand() {
@@ -168,21 +185,24 @@ fn steps_by_hand() {
 }
 
 /// The field of `WEST_CUT`, but the north winds are 1024 too. Nothing changes
-/// from south to north, so Y = 0 and ψ is as before. Yet each element gives to
-/// itself over its north face, by the three nodes of its line: the west's
-/// φ0 = 0 0 40, φ1 = 10 −10 10 and φ2 = 3 −3 27 make G = (22 − 4 · 22 + 158) / 4
-/// = 23, the east's 0 0 0, 60 0 0 and 7 3 −4 make G = (88 + 4 · 12 − 16) / 4 =
-/// 30, out of nothing. Out of the west's 240 go 237 + 24 + 23 = 284: 200, −20
-/// and 19. T = 20 and 220. The west's −36 are levelled by floor(56 / 36) = 1, to
-/// 4 −5 16: P = 120 with a weighted sum of 0, and scaling leaves 0 0 2. The
-/// east's 222 are levelled by floor(−2 / 36) = −1, to 24 2 −1: P = 192 with a
-/// weighted sum of 186.
+/// from south to north, so Y = 0 and ψ is 3 −6 15 and 25 3 0 as before. Yet
+/// each element gives to itself over its north face, by the three nodes of its
+/// line: the west's φ0 = 0 0 40, φ1 = 10 −10 10 and φ2 = 3 −3 27 make
+/// G = (22 − 4 · 22 + 158) / 4 = 23, the east's 0 0 0, 60 0 0 and 7 3 −4 make
+/// G = (88 + 4 · 12 − 16) / 4 = 30, out of nothing. Out of the west's 240 go
+/// 237 + 24 + 23 = 284: 200, −20 and 19. So 37, −4, 4 and 30 are held back, and
+/// q is 6, 0, 0 and 5. The west becomes 3 −6 21: T = 20 levels it by 0, P = 144
+/// with a weighted sum of 0, and scaling leaves 0 0 2. The east becomes 19 3 0,
+/// then by its own north face 14 −2 −5 in the south and 24 8 5 in the north:
+/// T = 220 levels it by 0, P = 14 + 4 · 31 + 61 = 199 with a weighted sum of
+/// 186.
 #[test]
-fn a_step_that_levels_down() {
+fn amounts_of_elements_to_themselves() {
     let mut field = lines([0, 0, 40], [0, 0, 0], [0, 0]);
     let answer = stepped(&mut field, &[1024; 4], 2);
-    assert_eq!(answer, (Ok(120 + 6), vec![200, -20, 19, 0]));
-    assert_eq!(field, lines([0, 0, 2], [24, 2, 0], [8, 28]));
+    assert_eq!(answer, (Ok(144 + 13), vec![200, -20, 19, 0]));
+    let east = vec![14, 0, 0, 19, 3, 0, 24, 8, 5, 21];
+    assert_eq!(field, [element([0, 0, 2], 8), east].concat());
 }
 
 /// One element is its own neighbour, so T = M, the remainder among it. In an
@@ -224,11 +244,11 @@ fn a_list_shows_the_figures() {
                   step 0\nstep 1\nload 0 0 0 4 0 0 4 0 0 4 0 0 0 0 0 0 0 0 0\nstep 0\n\
                   emission 0 0 0 1\nwithdrawal 0 1 0 23\nwithdrawal 0 1 0 1\nstep 2\n";
     let printed = "accepted\naccepted\naccepted\naccepted\n\
-                   accepted 18 -5 0 0 clipped 30\naccepted 217 -22 0 0 clipped 120\n\
+                   accepted 18 -5 0 0 clipped 30\naccepted 217 -22 0 0 clipped 144\n\
                    accepted\naccepted 18 -5 0 0 clipped 30\n\
                    accepted clipped 0\naccepted clipped 0\nrefused 10\nrefused 7\n\
                    field 0 0 0 0 0 0 0 0 0 2 0 0 0 0 0 0 0 0 0 0 \
-                   0 0 0 0 0 0 0 0 0 1 25 3 0 25 3 0 25 3 0 17\n\
+                   0 0 0 0 0 0 0 0 0 1 22 3 0 22 3 0 22 3 0 35\n\
                    wind 1024 1024 0 0\n";
     assert_eq!(lists::output(script).unwrap(), printed);
 }
@@ -237,10 +257,10 @@ fn a_list_shows_the_figures() {
 #[test]
 fn the_program_shows_the_figures() {
     let field = BY_HAND.map(|case| lines(case.before[0], case.before[1], [0, 0]));
-    let shape = Shape { nx: 2, ny: 1, k: 3 };
+    let shape = Shape { nx: 2, ny: 1, k: 4 };
     let text = program::output(&encoded(&field.concat(), &EAST, shape));
-    let mut expected = "grid 2 1 3\n".to_string();
-    for (smoke, sum) in [24, 240, 504].into_iter().enumerate() {
+    let mut expected = "grid 2 1 4\n".to_string();
+    for (smoke, sum) in [24, 240, 504, 168].into_iter().enumerate() {
         let [west, east, ..] = BY_HAND[smoke].report;
         let clipped = BY_HAND[smoke].clipped;
         expected += &format!(

@@ -1,32 +1,19 @@
 //! How much was cut (request 2026-04), on random input: closings and steps
 //! held to a second reading, and emissions and withdrawals that cut nothing.
 
+mod fields;
 mod random;
+mod rounding;
 mod second;
 
-use random::{calls, SHAPES};
+use fields::{buffers, seeded};
+use random::calls;
+use reference::checks::smoke_part;
 use reference::closing::{close, close_unlevelled, level, weighted};
 use reference::lists::{Answer, Call, State};
-use reference::random_file::sound_file;
 use reference::rng::Rng;
-use reference::{emission, mass, read_file, step, total, withdrawal, Shape};
-use second::{below_zero, Reading};
-
-/// Many shapes in turn, each with a seed.
-fn seeded(count: usize) -> impl Iterator<Item = (u64, Shape)> {
-    let shape = |(nx, ny, k)| Shape { nx, ny, k };
-    let shapes = SHAPES.into_iter().cycle().map(shape);
-    (0..count as u64).zip(shapes)
-}
-
-/// The field and wind of a random file.
-fn buffers(seed: u64, shape: Shape) -> (Vec<u32>, Vec<i16>) {
-    let Shape { nx, ny, k } = shape;
-    let file = sound_file(seed, nx, ny, k).unwrap();
-    let (mut field, mut wind) = (vec![0; shape.field_len()], vec![0; shape.wind_len()]);
-    assert_eq!(read_file(&file, &mut field, &mut wind), Ok(shape));
-    (field, wind)
-}
+use reference::{emission, mass, step, total, withdrawal, Shape};
+use second::{below_zero, Reading, Stepped};
 
 /// Signed ψ of some size, about a middle that may lie below 0.
 fn psi(rng: &mut Rng) -> [i64; 9] {
@@ -144,27 +131,33 @@ struct Met {
     largest: u64,
     /// Steps in which more than one element has a part in the figure.
     shared: u64,
+    /// Steps with a figure above 0 in which a face is cut.
+    cut: u64,
 }
 
 impl Met {
-    /// Holds a figure to the sum over the elements.
-    fn count(&mut self, clipped: u64, by_element: &[u64]) {
-        assert_eq!(clipped, by_element.iter().sum::<u64>());
+    /// Holds the figure to the sum over the elements, and the part and the
+    /// report to the second reading's.
+    fn count(&mut self, clipped: u64, part: &[u32], report: &[i32], second: &Stepped) {
+        assert_eq!(clipped, second.clipped.iter().sum::<u64>());
+        assert_eq!((part, report), (&second.numbers[..], &second.report[..]));
         self.steps += 1;
         self.above += u64::from(clipped > 0);
         self.largest = self.largest.max(clipped);
-        let parts = by_element.iter().filter(|&&part| part > 0).count();
+        let parts = second.clipped.iter().filter(|&&part| part > 0).count();
         self.shared += u64::from(parts > 1);
+        self.cut += u64::from(clipped > 0 && second.has_cut_face());
     }
 
     /// Tells it (shown by `cargo test -- --nocapture`), and that enough steps
     /// had a figure and enough had none.
     fn tell(&self, what: &str) {
         let Met { steps, above, .. } = *self;
-        let (largest, shared) = (self.largest, self.shared);
+        let (largest, shared, cut) = (self.largest, self.shared, self.cut);
         println!("{what}: {above} of {steps} steps above 0, {shared} from several elements");
-        println!("{what}: largest {largest}");
+        println!("{what}: {cut} of those above 0 with a cut face, largest {largest}");
         assert!(above > 500 && shared > 500 && steps - above > 20);
+        assert!(cut > 500 && above - cut > 100);
     }
 }
 
@@ -181,9 +174,9 @@ fn steps_in_lists_are_those_of_the_second_reading() {
             if let (Call::Step(smoke), Answer::Stepped(report, clipped)) = (&call, state.run(&call))
             {
                 let wind = &state.wind;
-                let part = before.chunks(shape.smoke_len()).nth(*smoke).unwrap();
-                let by_element = Reading { shape, wind }.clipped(part, &report);
-                met.count(clipped, &by_element);
+                let part = smoke_part(&state.field, shape, *smoke);
+                let second = Reading { shape, wind }.step(smoke_part(&before, shape, *smoke), true);
+                met.count(clipped, part, &report, &second);
             }
         }
     }
@@ -198,11 +191,11 @@ fn steps_of_files_are_those_of_the_second_reading() {
         let (mut field, wind) = buffers(6000 + seed, shape);
         let (mut report, mut work) = (vec![0; shape.wind_len()], vec![0; shape.work_len()]);
         for smoke in 0..k {
-            let before = field.clone();
-            let answer = step(&mut field, &wind, &mut report, &mut work, nx, ny, k, smoke);
-            let part = before.chunks(shape.smoke_len()).nth(smoke).unwrap();
             let reading = Reading { shape, wind: &wind };
-            met.count(answer.unwrap(), &reading.clipped(part, &report));
+            let second = reading.step(smoke_part(&field, shape, smoke), true);
+            let answer = step(&mut field, &wind, &mut report, &mut work, nx, ny, k, smoke);
+            let part = smoke_part(&field, shape, smoke);
+            met.count(answer.unwrap(), part, &report, &second);
         }
     }
     met.tell("files");

@@ -22,8 +22,9 @@ struct Listing {
 /// In the first step of smoke 0 the west element holds 79 and would give 62
 /// to the east (62.5, a half), 8 to the west against the wind there, and 10
 /// over its own north face: all three are cut. In the second it holds 11, its
-/// remainder 1 among them, and would give 7, 5 and 1. Smoke 0's clipped
-/// masses by element are 48 and 4, then 4 and 0; smoke 1's are 0 and 6.
+/// remainder 1 among them, and would give 7, 5 and 1. All these cuts are below
+/// 6, so no share of them is kept by a face (request 2026-05). Smoke 0's
+/// clipped masses by element are 48 and 4, then 4 and 0; smoke 1's are 0 and 6.
 const ON_ONE_ROW: Listing = Listing {
     shape: Shape { nx: 2, ny: 1, k: 2 },
     calls: &[
@@ -93,9 +94,11 @@ const BY_IMPORT: Listing = Listing {
 };
 
 /// Winds go all four ways. In the first step of smoke 0 the amounts that leave
-/// element (1, 0) are cut, and two faces run against their winds. Smoke 0's
-/// clipped masses by element are 18 72 64 1, then 1 24 36 6, then 2 4 6 0;
-/// smoke 1's are 2 0 5 1.
+/// element (1, 0) are cut, and two faces run against their winds. Its west face
+/// holds back −107 + 90 = −17, so q = −2 (request 2026-05): three nodes of
+/// element (0, 0) fall by 2, three of (1, 0) rise by 2. The other cut face holds
+/// back 4. Smoke 0's clipped masses by element are 18 96 64 1, then 0 24 36 6,
+/// then 2 4 7 0; smoke 1's are 2 0 5 1.
 const ALL_FOUR_WAYS: Listing = Listing {
     shape: Shape { nx: 2, ny: 2, k: 2 },
     calls: &[
@@ -115,23 +118,23 @@ const ALL_FOUR_WAYS: Listing = Listing {
         ("wind north 1 0 -300", "accepted"),
         ("wind north 0 1 1024", "accepted"),
         ("wind north 1 1 250", "accepted"),
-        ("step 0", "accepted -90 20 23 -3 -1 -12 57 12 clipped 155"),
+        ("step 0", "accepted -90 20 23 -3 -1 -12 57 12 clipped 179"),
         ("step 1", "accepted 0 0 0 0 19 0 -6 0 clipped 8"),
-        ("step 0", "accepted -19 3 25 -2 11 -11 107 12 clipped 67"),
+        ("step 0", "accepted -19 3 25 -2 10 -11 107 12 clipped 66"),
         ("withdrawal 0 0 1 207", "accepted clipped 0"),
-        ("withdrawal 0 0 1 221", "refused 10"),
+        ("withdrawal 0 0 1 220", "refused 10"),
         (
             "load 1 100000000 0 0 0 0 0 0 0 0 0 0 0 0 0 0 0 0 1 0 0 0 0 0 0 0 0 0 0 0 0 0 0 0 0 0 0",
             "refused 9",
         ),
-        ("step 0", "accepted -18 2 12 -2 30 -9 50 11 clipped 12"),
+        ("step 0", "accepted -18 2 12 -2 30 -9 50 11 clipped 13"),
     ],
     wind: &[-1024, 700, 300, 300, 500, -300, 1024, 250],
     parts: [
         &[
-            0, 11, 10, 6, 22, 1, 4, 13, 3, 33, //
+            0, 11, 10, 6, 23, 1, 4, 14, 2, 15, //
             7, 0, 2, 0, 0, 0, 3, 0, 0, 14, //
-            2, 3, 0, 0, 7, 6, 0, 7, 7, 1, //
+            2, 3, 0, 0, 7, 6, 0, 7, 7, 0, //
             7, 4, 1, 14, 5, 0, 16, 4, 0, 22,
         ],
         &[
@@ -141,7 +144,7 @@ const ALL_FOUR_WAYS: Listing = Listing {
             0, 0, 0, 0, 0, 0, 0, 0, 0, 0,
         ],
     ],
-    held: [&[526, 26, 186, 214], &[147, 0, 25, 0]],
+    held: [&[527, 26, 185, 214], &[147, 0, 25, 0]],
 };
 
 /// Runs the calls that are kept and holds each answer to the list's. Gives

@@ -19,14 +19,16 @@ use Rattle.std.proofs.Common.{length-drop}
 use Rattle.std.specs.Simd.{first_chunks}
 use Rattle.whole.proofs.ListParts.{chunk-at}
 use Rattle.whole.proofs.OverwriteLaws.{part_at}
-use Rattle.whole.proofs.TableLaws.{length-table, get_d-table, table-cong}
+use Rattle.whole.proofs.TableLaws.{table-all, get_d-table, table-cong}
 use Rattle.rules.specs.Field.{quadratic, element_length, cell, weighted, mass, limit}
 use Rattle.rules.specs.Limiter.{closed, closed_unlevelled}
 use Rattle.rules.specs.Calls.{loaded_value, loaded_element, emitted, withdrawn}
 use Rattle.rules.proofs.LimiterLaws.{closed-cong, unlevelled-cong}
 use Rattle.rules.proofs.PartLaws.{value-le-mass, length-loaded-element}
 use Rattle.rules.proofs.QuadraticLaws.{weights-above}
-use Rattle.limiter.specs.Sizes.{Tentative}
+use Rattle.rules.specs.Sizes.{closing_size}
+use Rattle.whole.specs.Bound.{Within, AllWithin}
+use Rattle.whole.proofs.BoundLaws.{within-le, within-pos}
 use Rattle.field_elements.specs.Weighing.{number_weight, weighed}
 use Rattle.field_layout.proofs.PlaceLaws.{ten}
 use Rattle.field_elements.proofs.ElementLaws.{node-number, weighs-small}
@@ -84,11 +86,11 @@ module _ (p : List ℕ) where
   unfolding cell element_length quadratic
   first_cell k = ap (λ n. get_or p n 0) (zero-add k)
 
-  pub own-tentative : mass quadratic p 0 ≤ limit → Tentative own
+  pub own-within : mass quadratic p 0 ≤ limit → AllWithin closing_size own
   unfolding quadratic
-  own-tentative b = record {
-    nine = omega (arith, length-table 9 (λ k. pos (get_or p k 0)));
-    small = λ k h. rw (get_d-table 9 (λ k. pos (get_or p k 0)) k (pos 0) h) (record { within = omega (arith, first_cell k, value-le-mass quadratic p 0 k h (weights-above k h)) });
+  own-within b = record {
+    all = table-all (Within closing_size) 9 (λ k. pos (get_or p k 0)) (pos 0) (within-le (within-pos 0) (omega arith))
+        (λ k h. record { within = omega (arith, first_cell k, value-le-mass quadratic p 0 k h (weights-above k h)) });
   }
 
   own_at : (k : ℕ) → k < 9 → at own k ≡ pos (cell quadratic p 0 k)

@@ -18,7 +18,8 @@ use Rattle.rules.specs.Limiter.{mean_shift, adjusted, truncated, clipped, rescal
 use Rattle.rules.specs.Grid.{east, west, north, south, behind, ahead}
 use Rattle.rules.specs.Stages.{upwind, place_wind, advection, along_x, along_y, tendency, tabulated, stage0, stage1, stage2, tentative, flux_of, face_sum, stages, flux}
 use Rattle.rules.specs.Correction.{donor, outflow, with_sign, cut, limited_flux, target}
-use Rattle.rules.specs.Step.{report, finish, tracer_step}
+use Rattle.rules.specs.HeldFlux.{node_rise, face_rise, with_held_flux}
+use Rattle.rules.specs.Step.{fluxes, report, closed_element, finish, tracer_step}
 use Rattle.rules.specs.Calls.{load, emission, withdrawal, step, Reply, no_report, wind_sound, zero_wind, zero_field, loaded_value, loaded_element, with_element, emitted, withdrawn, loaded, done, lent_enough, sound_if_there, checks, call, one_face, from_records, wind_reply, new_wind, wind_after}
 use Rattle.rules.specs.Bytes.{number32, number64}
 use Rattle.rules.specs.WindRecords.{magnitude, exact_value, face_wind, components_at, whole_at, reading_checks, record_checks, record_start, all_record_checks, record_winds}
@@ -46,7 +47,8 @@ yes = accepted (no_report 0)
 abbrev stepped : List ℤ → ℕ → Answer Reply
 stepped r n = accepted (record { report = r; clipped = n })
 
--- one row, so that a north face has both its ends at one element: both steps of smoke 0 cut what leaves an element, one face runs against its wind
+-- one row, so that a north face has both its ends at one element: both steps of smoke 0 cut what leaves an element, less than 6 at each face, so that no
+-- node rises or falls; one face runs against its wind
 abbrev pub on-one-row : Listing
 on-one-row = record {
   shape = record { nx = 2; ny = 1; tracers = 2 };
@@ -127,7 +129,8 @@ by-import = record {
   ledgers = on-one-row.ledgers;
 }
 
--- winds that go all four ways: the first step of smoke 0 cuts what leaves an element, and two faces run against their winds
+-- winds that go all four ways: the first step of smoke 0 cuts what leaves an element, 17 at one face, whose nodes fall and rise by 2, and two faces run
+-- against their winds
 abbrev pub all-four-ways : Listing
 all-four-ways = record {
   shape = record { nx = 2; ny = 2; tracers = 2 };
@@ -149,7 +152,7 @@ all-four-ways = record {
       ∷ on 1 (step tt)
       ∷ on 0 (step tt)
       ∷ on 0 (withdrawal 0 1 207)
-      ∷ on 0 (withdrawal 0 1 221)
+      ∷ on 0 (withdrawal 0 1 220)
       ∷ on 1 (load (100000000 ∷ 0 ∷ 0 ∷ 0 ∷ 0 ∷ 0 ∷ 0 ∷ 0 ∷ 0 ∷ 0 ∷ 0 ∷ 0 ∷ 0 ∷ 0 ∷ 0 ∷ 0 ∷ 0 ∷ 1 ∷ 0 ∷ 0 ∷ 0 ∷ 0 ∷ 0 ∷ 0 ∷ 0 ∷ 0 ∷ 0 ∷ 0 ∷ 0 ∷ 0 ∷ 0 ∷ 0 ∷ 0 ∷ 0 ∷ 0 ∷ 0 ∷ []))
       ∷ on 0 (step tt)
       ∷ [];
@@ -167,17 +170,17 @@ all-four-ways = record {
       ∷ yes
       ∷ yes
       ∷ yes
-      ∷ stepped (negsuc 89 ∷ pos 20 ∷ pos 23 ∷ negsuc 2 ∷ negsuc 0 ∷ negsuc 11 ∷ pos 57 ∷ pos 12 ∷ []) 155
+      ∷ stepped (negsuc 89 ∷ pos 20 ∷ pos 23 ∷ negsuc 2 ∷ negsuc 0 ∷ negsuc 11 ∷ pos 57 ∷ pos 12 ∷ []) 179
       ∷ stepped (pos 0 ∷ pos 0 ∷ pos 0 ∷ pos 0 ∷ pos 19 ∷ pos 0 ∷ negsuc 5 ∷ pos 0 ∷ []) 8
-      ∷ stepped (negsuc 18 ∷ pos 3 ∷ pos 25 ∷ negsuc 1 ∷ pos 11 ∷ negsuc 10 ∷ pos 107 ∷ pos 12 ∷ []) 67
+      ∷ stepped (negsuc 18 ∷ pos 3 ∷ pos 25 ∷ negsuc 1 ∷ pos 10 ∷ negsuc 10 ∷ pos 107 ∷ pos 12 ∷ []) 66
       ∷ yes
       ∷ refused 10
       ∷ refused 9
-      ∷ stepped (negsuc 17 ∷ pos 2 ∷ pos 12 ∷ negsuc 1 ∷ pos 30 ∷ negsuc 8 ∷ pos 50 ∷ pos 11 ∷ []) 12
+      ∷ stepped (negsuc 17 ∷ pos 2 ∷ pos 12 ∷ negsuc 1 ∷ pos 30 ∷ negsuc 8 ∷ pos 50 ∷ pos 11 ∷ []) 13
       ∷ [];
-  parts = (0 ∷ 11 ∷ 10 ∷ 6 ∷ 22 ∷ 1 ∷ 4 ∷ 13 ∷ 3 ∷ 33 ∷ 7 ∷ 0 ∷ 2 ∷ 0 ∷ 0 ∷ 0 ∷ 3 ∷ 0 ∷ 0 ∷ 14 ∷ 2 ∷ 3 ∷ 0 ∷ 0 ∷ 7 ∷ 6 ∷ 0 ∷ 7 ∷ 7 ∷ 1 ∷ 7 ∷ 4 ∷ 1 ∷ 14 ∷ 5 ∷ 0 ∷ 16 ∷ 4 ∷ 0 ∷ 22 ∷ []) ∷ (0 ∷ 0 ∷ 0 ∷ 3 ∷ 5 ∷ 1 ∷ 3 ∷ 7 ∷ 1 ∷ 19 ∷ 0 ∷ 0 ∷ 0 ∷ 0 ∷ 0 ∷ 0 ∷ 0 ∷ 0 ∷ 0 ∷ 0 ∷ 0 ∷ 2 ∷ 1 ∷ 0 ∷ 0 ∷ 0 ∷ 0 ∷ 0 ∷ 0 ∷ 16 ∷ 0 ∷ 0 ∷ 0 ∷ 0 ∷ 0 ∷ 0 ∷ 0 ∷ 0 ∷ 0 ∷ 0 ∷ []) ∷ [];
+  parts = (0 ∷ 11 ∷ 10 ∷ 6 ∷ 23 ∷ 1 ∷ 4 ∷ 14 ∷ 2 ∷ 15 ∷ 7 ∷ 0 ∷ 2 ∷ 0 ∷ 0 ∷ 0 ∷ 3 ∷ 0 ∷ 0 ∷ 14 ∷ 2 ∷ 3 ∷ 0 ∷ 0 ∷ 7 ∷ 6 ∷ 0 ∷ 7 ∷ 7 ∷ 0 ∷ 7 ∷ 4 ∷ 1 ∷ 14 ∷ 5 ∷ 0 ∷ 16 ∷ 4 ∷ 0 ∷ 22 ∷ []) ∷ (0 ∷ 0 ∷ 0 ∷ 3 ∷ 5 ∷ 1 ∷ 3 ∷ 7 ∷ 1 ∷ 19 ∷ 0 ∷ 0 ∷ 0 ∷ 0 ∷ 0 ∷ 0 ∷ 0 ∷ 0 ∷ 0 ∷ 0 ∷ 0 ∷ 2 ∷ 1 ∷ 0 ∷ 0 ∷ 0 ∷ 0 ∷ 0 ∷ 0 ∷ 16 ∷ 0 ∷ 0 ∷ 0 ∷ 0 ∷ 0 ∷ 0 ∷ 0 ∷ 0 ∷ 0 ∷ 0 ∷ []) ∷ [];
   winds = negsuc 1023 ∷ pos 700 ∷ pos 300 ∷ pos 300 ∷ pos 500 ∷ negsuc 299 ∷ pos 1024 ∷ pos 250 ∷ [];
-  ledgers = (pos 526 ∷ pos 26 ∷ pos 186 ∷ pos 214 ∷ []) ∷ (pos 147 ∷ pos 0 ∷ pos 25 ∷ pos 0 ∷ []) ∷ [];
+  ledgers = (pos 527 ∷ pos 26 ∷ pos 185 ∷ pos 214 ∷ []) ∷ (pos 147 ∷ pos 0 ∷ pos 25 ∷ pos 0 ∷ []) ∷ [];
 }
 
 -- a list evaluated from buffers of the needed lengths, which hold sevens before they are made fresh
@@ -214,7 +217,7 @@ unfolding evaluated struck strike stays replies_left ledger ledger_from line ent
     run perform lend unreported call answer after admitted lent_enough checks sound_if_there sound wind_sound done loaded loaded_element loaded_value with_element emitted withdrawn wind_reply new_wind wind_after
     all_record_checks record_checks reading_checks record_start whole_at components_at record_winds face_wind exact_value magnitude nearest nearest_natural number64 number32
     fresh zero_field zero_wind element_length elements_length part_length field_length part with_part cell remainder mass total weighted weight_sum quadratic
-    tracer_step stages stage0 stage1 stage2 tentative tabulated tendency along_x along_y advection place_wind upwind flux flux_of face_sum report finish donor outflow limited_flux cut with_sign target
+    tracer_step stages stage0 stage1 stage2 tentative tabulated tendency along_x along_y advection place_wind upwind flux flux_of face_sum fluxes report donor outflow limited_flux cut with_sign node_rise face_rise with_held_flux closed_element finish target
     closed closed_unlevelled clipped adjusted mean_shift truncated rescaled rescaled_value closing_remainder east west north south behind ahead
     sum sum_ℤ all table blocks overwrite positive
 listed = refl

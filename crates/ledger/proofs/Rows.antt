@@ -9,15 +9,15 @@ use lib.ListN.{length, take, drop}
 use lib.Seq.{take_at}
 use Rattle.whole.proofs.Cases.{both_yes}
 use Rattle.whole.proofs.OverwriteLaws.{front-is}
-use Rattle.whole.proofs.TableLaws.{length-table}
 use Rattle.rules.specs.declared.Shape.{Shape}
 use Rattle.std.specs.Prelude.{Ok}
 use Rattle.rules.specs.Answers.{Answer, accepted, refused, mapped, plain, answers}
 use Rattle.rules.specs.Field.{quadratic, faces, field_length, part, remainder, mass, total, limit}
 use Rattle.rules.specs.Calls.{Operation, load, emission, withdrawal, step, Lent, lengths_lent, lent, Reply, no_report, done, call, fresh_reply, fresh_field, fresh_wind, zero_field, zero_wind, clipped_mass, report_after, FreshGives, fresh_checks}
-use Rattle.rules.specs.Step.{report, tracer_step}
+use Rattle.rules.specs.Step.{tracer_step}
 use Rattle.rules.proofs.AnswerLaws.{answer-ind, after-accepted}
 use Rattle.rules.proofs.FieldLaws.{call-ind}
+use Rattle.rules.proofs.StepLaws.{report-length}
 use Rattle.ledger.specs.Lists.{Call, on_wind, on, State, Buffers, fresh, lend, unreported, perform, run, ledger, strike, replies_left}
 use Rattle.ledger.specs.Demand3.{Demand3}
 use Rattle.ledger.specs.OverCalls.{Given, Made, Row, reported, told, all_told, AfterRow}
@@ -49,8 +49,8 @@ module _ (g : Shape) (s : ℕ) (op : Operation Lent) (field : List ℕ) where
 
 -- a step's report has a number for each face
 report-long : (g : Shape) (p : List ℕ) (l : Lent) → length (done quadratic g (step l) p).reply.report ≡ faces g
-unfolding done tracer_step report
-report-long g p l = length-table (faces g) _
+unfolding done tracer_step
+report-long g p l = report-length quadratic g p _
 
 -- ---- one call
 module _ (g : Shape) (b : Buffers) where

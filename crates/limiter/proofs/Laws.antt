@@ -9,44 +9,44 @@ use mir.Syntax.{w64}
 use mir.Val.{to_z, of_z, Fits, SFits}
 use Rattle.whole.proofs.Sizes.{sizes, exacts, fits, exact}
 use Rattle.whole.specs.Table.{at}
-use Rattle.whole.specs.Bound.{Within, Are}
+use Rattle.whole.specs.Bound.{Within, Are, AllWithin}
 use Rattle.whole.specs.Sum.{sum, sum_ℤ}
 use Rattle.whole.proofs.BoundLaws.{within-le, within-add, within-mul, within-pos, within-sum}
 use Rattle.whole.proofs.SumLaws.{sum-le, sum_more, sum_mono, weighted-raised}
 use Rattle.whole.proofs.WholeLaws.{positive-le, negative-le}
 use Rattle.rules.specs.Field.{quadratic, weight_sum, weighted}
 use Rattle.rules.specs.Limiter.{signed_sum, truncated, clipped, rescaled_value}
-use Rattle.rules.specs.Sizes.{tentative_size, levelled_size, clipped_size}
+use Rattle.rules.specs.Sizes.{closing_size, shift_size, levelled_size, clipped_size}
 use Rattle.rules.proofs.ClippedLaws.{clipped-le}
 use Rattle.rules.proofs.LimiterLaws.{values-le}
 use Rattle.rules.proofs.QuadraticLaws.{weights-36, weights-above, weight-le}
-use Rattle.limiter.specs.Sizes.{Tentative, Shift, shifted}
+use Rattle.limiter.specs.Shifted.{shifted}
 
 -- one term of the signed sum
 abbrev pub term : List ℤ → ℕ → ℤ
 term l k = pos (quadratic.weight k) *ℤ at l k
 
 -- a weight, as the code gives it, times a value
-module _ {l : List ℤ} {k : ℕ} {w : ℤ} (h : Tentative l) (q : k < 9) (g : Are 16 w (pos (quadratic.weight k))) where
+module _ {l : List ℤ} {k : ℕ} {w : ℤ} (h : AllWithin closing_size l) (q : k < 9) (g : Are 16 w (pos (quadratic.weight k))) where
   pub term-fits : SFits w64 (to_z w64 (of_z w64 w) *ℤ to_z w64 (of_z w64 (at l k)))
-  term-fits = let b = h.small k q in fits (search sizes depth 20) tt
+  term-fits = let b = h.all k in fits (search sizes depth 20) tt
 
   pub term-is : to_z w64 (of_z w64 (to_z w64 (of_z w64 w) *ℤ to_z w64 (of_z w64 (at l k)))) ≡ term l k
-  term-is = let b = h.small k q in exact (search exacts depth 20) tt
+  term-is = let b = h.all k in exact (search exacts depth 20) tt
 
 -- the sum of the first n terms: 36 times the largest value at most
-pub terms-within : (l : List ℤ) (n : ℕ) → Tentative l → n ≤ 9 → Within (36 * tentative_size) (sum_ℤ n (term l))
+pub terms-within : (l : List ℤ) (n : ℕ) → AllWithin closing_size l → n ≤ 9 → Within (36 * closing_size) (sum_ℤ n (term l))
 unfolding sum quadratic
 terms-within l n h k = within-le (within-sum n (term l) bound each) (sum_mono bound n 9 k)
   where
     bound : ℕ → ℕ
-    bound i = quadratic.weight i * tentative_size
+    bound i = quadratic.weight i * closing_size
 
     each : (i : ℕ) → i < n → Within (bound i) (term l i)
-    each i q = within-mul (within-pos (quadratic.weight i)) (h.small i (omega arith))
+    each i q = within-mul (within-pos (quadratic.weight i)) (h.all i)
 
 -- the weighted sum of all nine
-pub sum-within : (l : List ℤ) → Tentative l → Within (36 * tentative_size) (signed_sum quadratic (at l))
+pub sum-within : (l : List ℤ) → AllWithin closing_size l → Within (36 * closing_size) (signed_sum quadratic (at l))
 unfolding quadratic
 sum-within l h = terms-within l 9 h (omega arith)
 
@@ -72,14 +72,14 @@ module _ (l : List ℤ) (s : ℤ) where
   unfolding weight_sum
   sum-shifted = ap (λ w. signed_sum quadratic (at l) +ℤ pos w *ℤ s) (sym weights-36) ∙ sym (weighted-raised quadratic.nodes quadratic.weight (at l) s)
 
-  module _ (h : Tentative l) (b : Shift s) where
+  module _ (h : AllWithin closing_size l) (b : Within shift_size s) where
     pub cut_value-le : (k : ℕ) → k < 9 → cut_value k ≤ levelled_size
     unfolding truncated
-    cut_value-le k q = omega (arith, positive-le (at l k +ℤ s), (within-add (h.small k q) b.small).within)
+    cut_value-le k q = omega (arith, positive-le (at l k +ℤ s), (within-add (h.all k) b).within)
 
     pub clipped-le_size : clipped quadratic (shifted l s) ≤ clipped_size
     unfolding quadratic
-    clipped-le_size = omega (arith, weights-36, clipped-le quadratic (shifted l s) levelled_size (λ k q. omega (arith, negative-le (at l k +ℤ s), (within-add (h.small k q) b.small).within)))
+    clipped-le_size = omega (arith, weights-36, clipped-le quadratic (shifted l s) levelled_size (λ k q. omega (arith, negative-le (at l k +ℤ s), (within-add (h.all k) b).within)))
 
     pub cut_sum-le : (n : ℕ) → n ≤ 9 → weighted_to cut_value n ≤ 36 * levelled_size
     unfolding sum quadratic
@@ -93,7 +93,7 @@ module _ (l : List ℤ) (s : ℤ) where
     cut_sum = omega (arith, weighted_to-all cut_value, cut_sum-le 9 (omega arith))
 
     pub sum-shifted-within : Within (36 * levelled_size) (signed_sum quadratic (shifted l s))
-    sum-shifted-within = subst (Within (36 * levelled_size)) sum-shifted (within-le (within-add (sum-within l h) (within-mul (within-pos 36) b.small)) (omega arith))
+    sum-shifted-within = subst (Within (36 * levelled_size)) sum-shifted (within-le (within-add (sum-within l h) (within-mul (within-pos 36) b)) (omega arith))
 
 -- ---- the closed values
 module _ (l : List ℤ) (s : ℤ) (t : ℕ) where

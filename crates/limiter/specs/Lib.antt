@@ -1,2 +1,2 @@
--- What the closing's callers ensure.
-pub mod Sizes
+-- What the leaves of the closing speak of.
+pub mod Shifted

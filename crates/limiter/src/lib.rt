@@ -5,23 +5,23 @@
 
 ghost use Rattle.std.specs.Prelude.{◌≡◌, ◌*◌, ◌≤◌, ◌<◌, ◌^◌, length};
 ghost use Rattle.whole.specs.Table.{at};
-ghost use Rattle.whole.specs.Bound.{Are};
+ghost use Rattle.whole.specs.Bound.{Within, Are, AllWithin};
 ghost use Rattle.rules.specs.Field.{quadratic, weighted};
 ghost use Rattle.rules.specs.Limiter.{signed_sum, mean_shift, truncated, clipped, rescaled, closed_unlevelled, closed};
-ghost use Rattle.rules.specs.Sizes.{shift_size, tentative_size, levelled_size, target_size, clipped_size};
-ghost use Rattle.limiter.specs.Sizes.{Tentative, Shift, shifted};
+ghost use Rattle.rules.specs.Sizes.{shift_size, closing_size, levelled_size, target_size, clipped_size};
+ghost use Rattle.limiter.specs.Shifted.{shifted};
 
 use rules::element::{NODES, node_weight, signed_weight};
 
 // The sum of the nodes' weights.
 const WEIGHT_SUM: i64 = 36;
 
-// What an element is closed with: its tentative values, the first nine of psi, and its target.
+// What an element is closed with: nine signed values psi and its target.
 #[derive(Clone, Copy)]
 pub struct Closing<'a> {
-    pub psi: &'a [i64],
+    pub psi: &'a [i64; NODES],
     pub target: u64,
-    ghost tentative: { Tentative psi.now },
+    ghost all_within: { AllWithin closing_size psi.now },
     ghost target_le_target_size: { target ≤ target_size },
 }
 
@@ -69,7 +69,7 @@ impl Closing<'_> {
 
     // The weighted sum of the values.
     fn weighted_sum(self) -> i64
-        ensures { Are (36 * tentative_size) result (signed_sum quadratic (at self.entry.psi.now)) }
+        ensures { Are (36 * closing_size) result (signed_sum quadratic (at self.entry.psi.now)) }
     {
         (0..NODES).map(|k| signed_weight(k) * self.psi[k]).sum()
     }
@@ -81,7 +81,7 @@ struct Raised<'a> {
     closing: Closing<'a>,
     shift: i64,
     sum: i64,
-    ghost small: { Shift shift },
+    ghost small: { Within shift_size shift },
     ghost sum_is: { sum ≡ signed_sum quadratic (shifted closing.psi.now shift) },
 }
 

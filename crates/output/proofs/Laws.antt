@@ -21,7 +21,6 @@ use Rattle.std.proofs.lemmas.Result.{err_from_is_err_and}
 use Rattle.rules.specs.Answers.{Answer, accepted, refused, mapped, number}
 use Rattle.rules.specs.Field.{quadratic, faces, part}
 use Rattle.rules.specs.Grid.{face_index}
-use Rattle.rules.specs.Stages.{stages}
 use Rattle.rules.specs.Step.{Stepped, tracer_step}
 use Rattle.rules.specs.Calls.{step, lengths_lent, Called, call, wind_at, total_reading, report_after, Reply, clipped_mass}
 use Rattle.rules.specs.Program.{grid_line, face_line, face_row, face_lines, total_line, tracer_lines, next, Printed, report_lent, work_lent, stepped, up_to}
@@ -103,7 +102,7 @@ module _ (g : Shape) (wind : List ℤ) (s : ℕ) (field : List ℕ) (rl wl : ℕ
     unfolding tracer_step
     lines_are t old new q long =
         ap (λ l. tracer_lines g s l t n) (q ∙ sym (report-accepted c.reply (record { report = outcome.report; clipped = outcome.clipped }) old shown.answers))
-        ∙ lines-kept g s t n outcome.report old (report-length quadratic g shown.shape.nx-above shown.shape.ny-above (wind_at wind) (part quadratic g s field) (stages quadratic g (wind_at wind) (part quadratic g s field))) (omega (arith, long, reports))
+        ∙ lines-kept g s t n outcome.report old (report-length quadratic g (part quadratic g s field) _) (omega (arith, long, reports))
 
 -- ---- all tracers: after the line of the grid, the lines of the first s of them are added
 pub record TracersAdded (g : Shape) (wind : List ℤ) (s : ℕ) (first now' : List ℕ) (old new : Text) : Type 0 where

@@ -15,9 +15,8 @@ use Rattle.rules.specs.declared.Shape.{Shape}
 use Rattle.rules.specs.Answers.{accepted}
 use Rattle.rules.specs.Field.{Kind, elements, element, on_grid, element_length, part_length, cell, remainder, mass, total, limit, weight_sum}
 use Rattle.rules.specs.Limiter.{closing_remainder}
-use Rattle.rules.specs.Stages.{stages}
 use Rattle.rules.specs.Step.{tracer_step}
-use Rattle.rules.specs.Calls.{Operation, load, emission, withdrawal, step, Lent, wind_at, loaded, with_element, emitted, withdrawn, Done, no_report, closed_in, done, checks}
+use Rattle.rules.specs.Calls.{Operation, load, emission, withdrawal, step, Lent, loaded, with_element, emitted, withdrawn, Done, no_report, closed_in, done, checks}
 use Rattle.rules.specs.Ledger.{only, entry}
 use Rattle.rules.proofs.AnswerLaws.{Passed}
 use Rattle.rules.proofs.LimiterLaws.{closed-length, closed-remainder, withdrawal-remainder, truncated-pos}
@@ -67,7 +66,7 @@ unfolding done checks tracer_step
 done-length κ g hx hy (load l) there p h c = length-loaded κ g l
 done-length κ g hx hy (emission i j q) there p h c = length-with_element κ g (element g i j) (emitted κ (element g i j) q p).numbers p (on-grid-lt g i j c.1.1.0) (length-emitted κ (element g i j) q p) h
 done-length κ g hx hy (withdrawal i j q) there p h c = length-with_element κ g (element g i j) (withdrawn κ (element g i j) q p).numbers p (on-grid-lt g i j c.1.1.0) (length-withdrawn κ (element g i j) q p) h
-done-length κ g hx hy (step l) there p h c = length-after κ g hx hy (wind_at l.wind) p (stages κ g (wind_at l.wind) p)
+done-length κ g hx hy (step l) there p h c = length-after κ g p _ _
 
 -- what an operation leaves of a part p, and the ledger's line for it
 pub record Kept (κ : Kind) (g : Shape) (op : Operation Lent) (p : List ℕ) (d : Done) : Type 0 where
@@ -144,9 +143,7 @@ withdrawal-law κ g i j q p h on b =
 
 step-law : (κ : Kind) (g : Shape) (hw : 0 < weight_sum κ) (hx : 0 < g.nx) (hy : 0 < g.ny) (l : Lent) (p : List ℕ) → Good κ g p → Kept κ g (step l) p (done κ g (step l) p)
 unfolding entry done tracer_step
-step-law κ g hw hx hy l p h =
-    let w = wind_at l.wind in
-    record { good = good-after κ g hx hy w p (stages κ g w p) hw h.bounded; entries = entries-after κ g hx hy w p (stages κ g w p) }
+step-law κ g hw hx hy l p h = record { good = good-after κ g p _ _ hx hy hw h.bounded; entries = entries-after κ g p _ _ hx hy }
 
 pub operation-law : (κ : Kind) (g : Shape) (hw : 0 < weight_sum κ) (hx : 0 < g.nx) (hy : 0 < g.ny) (op : Operation Lent) (there : Bool) (p : List ℕ) → Good κ g p → Passed (checks κ g op there p)
     → Kept κ g op p (done κ g op p)

@@ -16,7 +16,8 @@ use Rattle.rules.specs.Answers.{answer}
 use Rattle.rules.specs.Field.{Kind, PositiveWeights, quadratic, elements, element, part, weight_sum, weighted, cell, remainder, mass}
 use Rattle.rules.specs.Limiter.{signed_sum, mean_shift, adjusted, truncated, clipped, closed, closed_unlevelled}
 use Rattle.rules.specs.Stages.{Stages, stages}
-use Rattle.rules.specs.Step.{report, target_mass, finish, tracer_step}
+use Rattle.rules.specs.HeldFlux.{rises, with_held_flux}
+use Rattle.rules.specs.Step.{fluxes, report, target_mass, closed_element, finish, tracer_step}
 use Rattle.rules.specs.Calls.{Operation, Lent, emission, withdrawal, emitted, withdrawn, done, call, call_checks, clipped_mass}
 use Rattle.rules.proofs.AnswerLaws.{mapped-answer}
 use Rattle.rules.proofs.QuadraticLaws.{weights-above}
@@ -106,19 +107,25 @@ module _ (κ : Kind) (g : Shape) (s : ℕ) (field : List ℕ) where
 
 -- ---- a step's: 0 exactly where no levelled number of any element was negative
 module _ (κ : Kind) (g : Shape) (c : ℕ → ℤ) (p : List ℕ) where
+  -- what is closed, ψ with held flux; and the levelled numbers of element e, for its target
   abbrev s : Stages
   s = stages κ g c p
 
-  -- the levelled numbers of element e, for its target
+  abbrev G : List ℤ
+  G = fluxes κ g c s
+
+  abbrev r : List ℤ
+  r = report κ g p G
+
   abbrev levelled : ℕ → ℕ → ℤ
-  levelled e = adjusted κ (s.ψ e) (target_mass κ g p (report κ g c p s) e)
+  levelled e = adjusted κ (with_held_flux κ g (rises κ G r) s.ψ e) (target_mass κ g p r e)
 
   pub step-clips-nothing : ((e : ℕ) → e < elements g → NoneNegative κ (levelled e)) → (tracer_step κ g c p).clipped ≡ 0
-  unfolding tracer_step finish closed closed_unlevelled
+  unfolding tracer_step finish closed_element closed closed_unlevelled
   step-clips-nothing h = sum-zero (elements g) _ (λ e l. clips-nothing κ (levelled e) (h e l))
 
   pub nothing-clipped-by-step : PositiveWeights κ → (tracer_step κ g c p).clipped ≡ 0 → (e : ℕ) → e < elements g → NoneNegative κ (levelled e)
-  unfolding tracer_step finish closed closed_unlevelled
+  unfolding tracer_step finish closed_element closed closed_unlevelled
   nothing-clipped-by-step w z e l = nothing-clipped κ (levelled e) w (omega (arith, z, term-le (elements g) (λ e. clipped κ (levelled e)) e l))
 
 -- of the quadratic element, both ways

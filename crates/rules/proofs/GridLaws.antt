@@ -11,7 +11,7 @@ use lib.Dec.{T, eqb, ltb→lt, lt→ltb, nltb→le, not_T}
 use lib.IntN.{ℤ, pos, neg_ℤ, ◌+ℤ◌, ◌-ℤ◌}
 use Rattle.whole.specs.Sum.{sum_ℤ}
 use Rattle.whole.proofs.Cases.{cond_ind, cond_yes, cond_no, eqb_of, ne→neqb}
-use Rattle.whole.proofs.WholeLaws.{add_parts, eq-parts}
+use Rattle.whole.proofs.WholeLaws.{add_parts, sub-parts-of, positive-neg, negative-neg, eq-parts}
 use Rattle.whole.proofs.SumLaws.{sum_ℤ-add, sum_ℤ-cong, sum_ℤ-single, sum_ℤ-split}
 use Rattle.rules.specs.declared.Shape.{Shape}
 use Rattle.rules.specs.declared.Way.{Way}
@@ -54,18 +54,21 @@ unfoldable pub moved : Shape → (ℕ → ℤ) → ℕ → ℕ → ℤ
 unfolding behind ahead
 moved g x e f = only (eqb (ahead g f) e) (x f) -ℤ only (eqb (behind g f) e) (x f)
 
-arrange : (m a b c d : ℤ) → m +ℤ ((b +ℤ a) +ℤ (d +ℤ c)) ≡ m +ℤ a +ℤ b +ℤ c +ℤ d
+arrange : (m a b c d : ℤ) → m +ℤ ((a +ℤ b) +ℤ (c +ℤ d)) ≡ m +ℤ a +ℤ b +ℤ c +ℤ d
 arrange m a b c d = eq-parts (omega (
   arith,
-  add_parts m ((b +ℤ a) +ℤ (d +ℤ c)),
-  add_parts (b +ℤ a) (d +ℤ c),
-  add_parts b a,
-  add_parts d c,
+  add_parts m ((a +ℤ b) +ℤ (c +ℤ d)),
+  add_parts (a +ℤ b) (c +ℤ d),
+  add_parts a b,
+  add_parts c d,
   add_parts (m +ℤ a +ℤ b +ℤ c) d,
   add_parts (m +ℤ a +ℤ b) c,
   add_parts (m +ℤ a) b,
   add_parts m a,
 ))
+
+swap : (a b : ℤ) → a -ℤ b ≡ neg_ℤ b +ℤ a
+swap a b = eq-parts (omega (arith, sub-parts-of a b, add_parts (neg_ℤ b) a, positive-neg b, negative-neg b))
 
 -- an element of the grid, and its faces, have an index below their number
 pub element-lt : (g : Shape) (i j : ℕ) → i < g.nx → j < g.ny → element g i j < elements g
@@ -189,17 +192,22 @@ module _ (g : Shape) (hx : 0 < g.nx) (hy : 0 < g.ny) where
   }
 
 module _ (g : Shape) (d : Direction g) where
-  -- what the faces of one direction do to element e: the face behind it adds, its own takes
-  moved-one-way : (x : ℕ → ℤ) (e : ℕ) → e < elements g → sum_ℤ (elements g) (λ f. moved g x e (d.at f)) ≡ x (d.at (d.back e)) +ℤ neg_ℤ (x (d.at e))
+  -- over the faces of one direction, what is given to the element behind, x, and to the one ahead, y: element e has the one of its own face and the
+  -- other of the face behind it
+  pub sum-ends : (x y : ℕ → ℤ) (e : ℕ) → e < elements g → sum_ℤ (elements g) (λ f. only (eqb f e) (x f) +ℤ only (eqb (d.on f) e) (y f)) ≡ x e +ℤ y (d.back e)
+  sum-ends x y e h = sum_ℤ-add (elements g) (λ f. only (eqb f e) (x f)) (λ f. only (eqb (d.on f) e) (y f))
+      ∙ ap₂ ◌+ℤ◌
+      (sum-only (elements g) (λ f. f) x e e h refl (λ f l z. z))
+      (sum-only (elements g) d.on y e (d.back e) (d.back-lt e h) (d.on-of-back e h) (λ f l z. sym (d.back-of-on f l) ∙ ap d.back z))
+
+  -- what the faces of one direction do to element e: its own takes, the face behind it adds
+  moved-one-way : (x : ℕ → ℤ) (e : ℕ) → e < elements g → sum_ℤ (elements g) (λ f. moved g x e (d.at f)) ≡ neg_ℤ (x (d.at e)) +ℤ x (d.at (d.back e))
   unfolding moved
   moved-one-way x e h =
-      sum_ℤ-cong (elements g) (λ f. moved g x e (d.at f)) (λ f. only (eqb (d.on f) e) (x (d.at f)) +ℤ only (eqb f e) (neg_ℤ (x (d.at f))))
+      sum_ℤ-cong (elements g) (λ f. moved g x e (d.at f)) (λ f. only (eqb f e) (neg_ℤ (x (d.at f))) +ℤ only (eqb (d.on f) e) (x (d.at f)))
       (λ f l. ap₂ (λ a b. only (eqb a e) (x (d.at f)) -ℤ only (eqb b e) (x (d.at f))) (d.ahead-is f l) (d.behind-is f l)
-      ∙ ap (λ y. only (eqb (d.on f) e) (x (d.at f)) +ℤ y) (only-neg (eqb f e) (x (d.at f))))
-      ∙ sum_ℤ-add (elements g) (λ f. only (eqb (d.on f) e) (x (d.at f))) (λ f. only (eqb f e) (neg_ℤ (x (d.at f))))
-      ∙ ap₂ ◌+ℤ◌
-      (sum-only (elements g) d.on (λ f. x (d.at f)) e (d.back e) (d.back-lt e h) (d.on-of-back e h) (λ f l z. sym (d.back-of-on f l) ∙ ap d.back z))
-      (sum-only (elements g) (λ f. f) (λ f. neg_ℤ (x (d.at f))) e e h refl (λ f l z. z))
+      ∙ swap (only (eqb (d.on f) e) (x (d.at f))) (only (eqb f e) (x (d.at f))) ∙ ap (λ y. y +ℤ only (eqb (d.on f) e) (x (d.at f))) (only-neg (eqb f e) (x (d.at f))))
+      ∙ sum-ends (λ f. neg_ℤ (x (d.at f))) (λ f. x (d.at f)) e h
 
 module _ (g : Shape) (hx : 0 < g.nx) (hy : 0 < g.ny) where
   -- over all faces, what is moved at e is the rule of the target

@@ -10,6 +10,7 @@ pub mod LedgerLaws
 pub mod AnswerLaws
 pub mod RisingLaws
 pub mod StepLaws
+pub mod HeldLaws
 pub mod CallLaws
 pub mod FieldLaws
 pub mod TextLaws
@@ -22,3 +23,4 @@ pub mod QuadraticLaws
 pub mod MarkedCases
 pub mod ExactValue
 pub mod RecordCases
+pub mod HeldCases

@@ -8,6 +8,7 @@ pub mod Limiter
 pub mod Grid
 pub mod Stages
 pub mod Correction
+pub mod HeldFlux
 pub mod Step
 pub mod Calls
 pub mod Ledger

@@ -7,7 +7,11 @@ use Rattle.rules.specs.Field.{limit}
 abbrev pub most_elements : ℕ
 most_elements = 64 * 64
 
--- ---- stages: a value, a tendency, which is at most 7 times a value, and a sum of tendencies, before and with that of stage 2
+-- ---- stages: a value of stage 1, a value of stages 0 to 2, a tendency, which is at most 7 times a value, and a sum of tendencies, before and with
+-- that of stage 2
+abbrev pub stage_1_size : ℕ
+stage_1_size = 8 * limit
+
 abbrev pub stage_size : ℕ
 stage_size = 17 * limit
 
@@ -20,26 +24,35 @@ earlier_sum_size = 63 * limit
 abbrev pub sum_size : ℕ
 sum_size = 800 * limit
 
--- ---- faces: a face's sum, its flux, and the four fluxes of an element
+-- ---- faces: the stages' values as a face sums them, its sum, its flux, the four fluxes of an element, and by how much a face's nodes rise
+abbrev pub combined_size : ℕ
+combined_size = 77 * limit
+
 abbrev pub face_sum_size : ℕ
-face_sum_size = 108 * stage_size
+face_sum_size = 6 * combined_size
 
 abbrev pub flux_size : ℕ
-flux_size = 27 * stage_size
+flux_size = 116 * limit
 
 abbrev pub outflow_size : ℕ
 outflow_size = 4 * flux_size
 
--- ---- closing: the values that it is given, what levelling adds to them (their mean and a 36th of the target), what they are then, the
--- target, and the clipped mass of an element and of a step
+abbrev pub rise_size : ℕ
+rise_size = 20 * limit
+
+-- ---- closing: the tentative values, the values that are closed, to which two faces add, what levelling adds to them (their mean and a 36th of the
+-- target), what they are then, the target, and the clipped mass of an element and of a step
 abbrev pub tentative_size : ℕ
 tentative_size = 92 * limit
 
+abbrev pub closing_size : ℕ
+closing_size = tentative_size + 2 * rise_size
+
 abbrev pub shift_size : ℕ
-shift_size = tentative_size + 13888890
+shift_size = closing_size + 13888890
 
 abbrev pub levelled_size : ℕ
-levelled_size = tentative_size + shift_size
+levelled_size = closing_size + shift_size
 
 abbrev pub target_size : ℕ
 target_size = 5 * limit

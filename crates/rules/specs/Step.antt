@@ -1,33 +1,37 @@
--- Document 01, "Step", and document 02, 2026-04: the step of one tracer, on its part of the field.
-use Rattle.std.specs.Prelude.{List, ℕ, ℤ, pos, get_or}
+-- Document 01, "Step", and document 02, 2026-04 and 2026-05: the step of one tracer, on its part of the field.
+use Rattle.std.specs.Prelude.{List, ℕ, ℤ, get_or}
 use Rattle.whole.specs.Parts.{positive}
 use Rattle.whole.specs.Sum.{sum}
-use Rattle.whole.specs.Table.{table, blocks}
+use Rattle.whole.specs.Table.{table, blocks, at}
 use Rattle.rules.specs.declared.Shape.{Shape}
 use Rattle.rules.specs.Field.{Kind, elements, faces, mass}
 use Rattle.rules.specs.Limiter.{Closed, closed}
 use Rattle.rules.specs.Stages.{Stages, stages, flux}
 use Rattle.rules.specs.Correction.{donor, outflow, limited_flux, target}
+use Rattle.rules.specs.HeldFlux.{node_rise, rises, with_held_flux}
 
--- the limited fluxes of all faces, the face report: "the stages run uncut and the combined amount is cut once, against M at
+-- the fluxes (document 01's G) of all faces
+unfoldable pub fluxes : Kind → Shape → (ℕ → ℤ) → Stages → List ℤ
+unfolding table flux
+fluxes κ g c s = table (faces g) (flux κ g c s)
+
+-- the limited fluxes of all faces, the face report, for the fluxes G: "the stages run uncut and the combined amount is cut once, against M at
 -- the start"
-unfoldable pub report : Kind → Shape → (ℕ → ℤ) → List ℕ → Stages → List ℤ
-unfolding table flux donor outflow limited_flux mass
-report κ g c p s =
-    let fluxes : List ℤ = table (faces g) (flux κ g c s) in
-    let G : ℕ → ℤ = λ f. get_or fluxes f (pos 0) in
-    let donors = donor g G in
-    let outflows : List ℕ = table (elements g) (outflow g donors G) in
-    table (faces g) (limited_flux donors (mass κ p) G (λ e. get_or outflows e 0))
+unfoldable pub report : Kind → Shape → List ℕ → List ℤ → List ℤ
+unfolding table donor outflow limited_flux mass
+report κ g p G =
+    let donors = donor g (at G) in
+    let outflows : List ℕ = table (elements g) (outflow g donors (at G)) in
+    table (faces g) (limited_flux donors (mass κ p) (at G) (λ e. get_or outflows e 0))
 
 -- T of element e, for a report. It is never below 0 (`goal-above`), so its positive part is T.
 abbrev pub target_mass : Kind → Shape → List ℕ → List ℤ → ℕ → ℕ
-target_mass κ g p r e = positive (target g (mass κ p) (λ f. get_or r f (pos 0)) e)
+target_mass κ g p r e = positive (target g (mass κ p) (at r) e)
 
--- "Close with ψ and T": element e, for a report
-unfoldable pub finish : Kind → Shape → List ℕ → Stages → List ℤ → ℕ → Closed
+-- "Close with ψ and T": element e, for a report and the ψ that is closed
+unfoldable pub closed_element : Kind → Shape → List ℕ → List ℤ → (ℕ → ℕ → ℤ) → ℕ → Closed
 unfolding closed target mass positive
-finish κ g p s r e = closed κ (s.ψ e) (target_mass κ g p r e)
+closed_element κ g p r ψ e = closed κ (ψ e) (target_mass κ g p r e)
 
 -- what a step leaves, the tracer's part and the report; and what it gives: "the sum of this over its elements" (document 02, 2026-04)
 pub record Stepped : Type 0 where
@@ -35,13 +39,28 @@ pub record Stepped : Type 0 where
   pub report : List ℤ
   pub clipped : ℕ
 
+-- every element closed, and "Report every G*"
+unfoldable pub finish : Kind → Shape → List ℕ → List ℤ → (ℕ → ℕ → ℤ) → Stepped
+unfolding closed_element blocks sum
+finish κ g p r ψ = record {
+  part = blocks (elements g) (λ e. (closed_element κ g p r ψ e).numbers);
+  report = r;
+  clipped = sum (elements g) (λ e. (closed_element κ g p r ψ e).clipped);
+}
+
+-- the step; document 02, 2026-05, "Before the closing": the tentative ψ gets what all faces add
 unfoldable pub tracer_step : Kind → Shape → (ℕ → ℤ) → List ℕ → Stepped
-unfolding stages report finish blocks sum
+unfolding stages fluxes report node_rise with_held_flux finish
 tracer_step κ g c p =
     let s = stages κ g c p in
-    let r = report κ g c p s in
-    record {
-      part = blocks (elements g) (λ e. (finish κ g p s r e).numbers);
-      report = r;
-      clipped = sum (elements g) (λ e. (finish κ g p s r e).clipped);
-    }
+    let G = fluxes κ g c s in
+    let r = report κ g p G in
+    finish κ g p r (with_held_flux κ g (rises κ G r) s.ψ)
+
+-- the step without that rule, of which 2026-05 says: "A step in which no face is cut gives the result it gave before." The tentative ψ is closed
+unfoldable pub step_without_held_flux : Kind → Shape → (ℕ → ℤ) → List ℕ → Stepped
+unfolding stages fluxes report finish
+step_without_held_flux κ g c p =
+    let s = stages κ g c p in
+    let r = report κ g p (fluxes κ g c s) in
+    finish κ g p r s.ψ

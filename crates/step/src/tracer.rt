@@ -1,6 +1,5 @@
 // The step of one tracer, on its part of the field. Leaves: what is lent has its length, winds and the tracer's total are in their ranges.
 ghost use Rattle.std.specs.Prelude.{◌≡◌, ◌≤◌, length};
-ghost use Rattle.whole.specs.Bound.{AllWithin};
 ghost use Rattle.whole.specs.Parts.{positive};
 ghost use Rattle.whole.specs.Sum.{sum};
 ghost use Rattle.whole.specs.Table.{blocks, at};
@@ -8,13 +7,13 @@ ghost use Rattle.rules.specs.Field.{quadratic, elements, elements_length, faces,
 ghost use Rattle.rules.specs.Correction.{target};
 ghost use Rattle.rules.specs.Step.{tracer_step};
 ghost use Rattle.rules.specs.Calls.{wind_at};
-ghost use Rattle.rules.specs.Sizes.{target_size, tentative_size, step_clipped_size};
-ghost use Rattle.step_upwind.specs.Upwind.{stage_length};
-ghost use Rattle.step.specs.Finish.{Balance, mass_of, closed_element};
+ghost use Rattle.rules.specs.Sizes.{target_size, step_clipped_size};
+ghost use Rattle.step.specs.Finish.{Balance, Values, mass_of, closed_lent};
 
 use field_layout::Grid;
 use limiter::Closing;
 use rules::element::{NODES, NUMBERS};
+use step_correction::held;
 use step_fluxes::Combined;
 use step_grid::Element;
 use step_stages::Pass;
@@ -32,24 +31,32 @@ fn target(masses: &[i64], report: &[i32], element: Element) -> u64
     all.unsigned_abs() // a target is never below 0
 }
 
-// Every element is closed with its tentative values and its target. The sum of the clipped masses is answered.
-fn finish(part: &mut [u32], psi: &[i64], masses: &[i64], report: &[i32], grid: Grid) -> u64
+// Every element is closed with its tentative values, to which its faces add what they hold back, and its target. The sum of the clipped masses is
+// answered.
+fn finish(
+    part: &mut [u32],
+    psi: &[i64],
+    rises: &[i64],
+    masses: &[i64],
+    report: &[i32],
+    grid: Grid,
+) -> u64
     requires part_len { length part.old ≡ elements_length quadratic grid.shape }
-    requires psi_len { length psi.now ≡ stage_length grid.shape }
-    requires all_within { AllWithin tentative_size psi.now }
+    requires values { Values grid.shape psi.now rises.now }
     requires balance { Balance grid.shape masses.now report.now }
-    ensures numbers { part.new ≡ blocks (elements grid.shape) (λ e. (closed_element grid.shape psi.now masses.now report.now e).numbers) }
-    ensures clipped { result ≡ sum (elements grid.shape) (λ e. (closed_element grid.shape psi.now masses.now report.now e).clipped) }
+    ensures numbers { part.new ≡ blocks (elements grid.shape) (λ e. (closed_lent grid.shape psi.now rises.now masses.now report.now e).numbers) }
+    ensures clipped { result ≡ sum (elements grid.shape) (λ e. (closed_lent grid.shape psi.now rises.now masses.now report.now e).clipped) }
     ensures upper_bound { result ≤ step_clipped_size }
 {
     let n = grid.elements();
     let mut clipped = 0;
-    // By number, which gives the element its neighbours and its place in both slices: of what stands in parts that `chunks_exact_mut` has lent,
+    // By number, which gives the element its neighbours and its place in the part: of what stands in parts that `chunks_exact_mut` has lent,
     // a proof knows nothing afterwards.
     for index in 0..n {
+        let element = Element { grid, index };
         let closing = Closing {
-            psi: &psi[index * NODES..],
-            target: target(masses, report, Element { grid, index }),
+            psi: &held::with_held_flux(psi, rises, element),
+            target: target(masses, report, element),
         };
         let start = index * NUMBERS;
         let end = start + NUMBERS;
@@ -97,5 +104,6 @@ pub(crate) fn step(part: &mut [u32], winds: Winds, report: &mut [i32], work: &mu
     step_correction::masses(masses, part);
     step_correction::outflows(outflows, fluxes, grid);
     step_correction::limit(report, fluxes, outflows, masses, grid);
-    finish(part, psi, masses, report, grid)
+    held::rises(fluxes, report); // over the fluxes, which nothing reads any more
+    finish(part, psi, fluxes, masses, report, grid)
 }

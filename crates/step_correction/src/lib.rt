@@ -1,4 +1,4 @@
-// The flux correction of a step: outflows from the fluxes, masses from the stored numbers, and the fluxes cut by both.
+// The flux correction of a step: outflows from the fluxes, masses from the stored numbers, and the fluxes cut by both; held.rt has what is held back.
 // Every function here is a leaf: what is lent has its length, and its numbers are as small as a step makes them.
 #![tactic(auto)]
 
@@ -17,6 +17,8 @@ use field_elements::element;
 use field_layout::Grid;
 use rules::element::NUMBERS;
 use step_grid::{Element, Face};
+
+pub mod held; // held.rt: what is held back
 
 // x where it is above 0, else 0.
 fn positive(x: i64) -> i64

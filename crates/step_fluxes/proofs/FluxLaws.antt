@@ -12,9 +12,9 @@ use Rattle.whole.proofs.BoundLaws.{within-le, within-add, within-mul, within-pos
 use Rattle.whole.proofs.TableLaws.{get_d-table, table-cong}
 use Rattle.whole.proofs.SumLaws.{sum_ℤ-cong}
 use Rattle.rules.specs.declared.Shape.{Shape}
-use Rattle.rules.specs.Field.{quadratic, elements, faces, Admitted}
+use Rattle.rules.specs.Field.{limit, quadratic, elements, faces, Admitted}
 use Rattle.rules.specs.Stages.{upwind, face_sum, flux_of, flux, Stages, stages}
-use Rattle.rules.specs.Sizes.{stage_size}
+use Rattle.rules.specs.Sizes.{stage_1_size, stage_size, combined_size}
 use Rattle.step_upwind.specs.Upwind.{stage_length, listed, as_stage}
 use Rattle.step_upwind.proofs.ListedLaws.{listed-at, listed-within}
 use Rattle.step_upwind.proofs.TendencyLaws.{upwind-cong}
@@ -38,11 +38,11 @@ module _ (g : Shape) (c : ℕ → ℤ) (p : List ℕ) where
       value : (m i : ℕ) → i < stage_length g → at (stage_list g c p m) i ≡ stage_of s m (i / 9) (i % 9)
       value m i l = get_d-table (stage_length g) (λ i. stage_of s m (i / 9) (i % 9)) i (pos 0) l
 
-  pub combined-small : ((m : ℕ) → m < 3 → AllWithin stage_size (stage_list g c p m)) → AllWithin (6 * stage_size) combined_list
-  combined-small h = listed-within (elements g) together (λ e k le lk. within-le (within-add (within-add (value 0 (omega arith) e k le lk) (within-mul (within-pos 4) (value 2 (omega arith) e k le lk))) (value 1 (omega arith) e k le lk)) (omega arith))
+  pub combined-small : AllWithin limit (stage_list g c p 0) → AllWithin stage_1_size (stage_list g c p 1) → AllWithin stage_size (stage_list g c p 2) → AllWithin combined_size combined_list
+  combined-small h0 h1 h2 = listed-within (elements g) together (λ e k le lk. within-le (within-add (within-add (value 0 h0 e k le lk) (within-mul (within-pos 4) (value 2 h2 e k le lk))) (value 1 h1 e k le lk)) (omega arith))
     where
-      value : (m : ℕ) → m < 3 → (e k : ℕ) → e < elements g → k < 9 → Within stage_size (stage_of s m e k)
-      value m lm e k le lk = subst (Within stage_size) (listed-at (elements g) (stage_of s m) e k le lk) ((h m lm).all (e * 9 + k))
+      value : (m : ℕ) {size : ℕ} → AllWithin size (stage_list g c p m) → (e k : ℕ) → e < elements g → k < 9 → Within size (stage_of s m e k)
+      value m {size} h e k le lk = subst (Within size) (listed-at (elements g) (stage_of s m) e k le lk) (h.all (e * 9 + k))
 
   -- the upwind value of the combined stages is the combined upwind value
   chosen : (f r : ℕ) → upwind quadratic g c together f r ≡ combined (upwind quadratic g c s.φ0 f r) (upwind quadratic g c s.φ1 f r) (upwind quadratic g c s.φ2 f r)

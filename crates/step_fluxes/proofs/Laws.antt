@@ -1,4 +1,5 @@
--- A face's sum over its nodes is small, term by term; its line is where the rules' upwind values stand; and the flux that the code makes of the sum.
+-- A face's sum over its nodes is small, every term by its value's size and its weight; its line is where the rules' upwind values stand; and the
+-- flux that the code makes of the sum.
 use mathlib.Core.Path.{◌≡◌, refl, sym, ap}
 use mathlib.Core.Bool.{Bool, true, false, cond}
 use mathlib.Core.List.{List}
@@ -9,17 +10,16 @@ use lib.Signed.{non_neg}
 use Rattle.whole.specs.Table.{at}
 use Rattle.whole.specs.Bound.{Within, Are, AllWithin, floor_div}
 use Rattle.whole.specs.Sum.{sum, sum_ℤ}
-use Rattle.whole.proofs.BoundLaws.{within-le, within-mul, within-sum}
+use Rattle.whole.proofs.BoundLaws.{within-le, within-mul, within-pos, within-sum}
 use Rattle.whole.proofs.NearestFloor.{nearest-floor}
 use Rattle.whole.proofs.NearestLaws.{within-nearest}
 use Rattle.whole.proofs.SumLaws.{sum_mono, sum_ℤ-cong}
 use Rattle.rules.specs.declared.Shape.{Shape}
-use Rattle.rules.specs.Field.{quadratic, elements, faces, Admitted}
+use Rattle.rules.specs.Field.{limit, quadratic, elements, faces, Admitted}
 use Rattle.rules.specs.Grid.{looks_east, behind, ahead}
 use Rattle.rules.specs.Stages.{upwind, flux_of}
-use Rattle.rules.specs.Sizes.{stage_size, face_sum_size, flux_size}
+use Rattle.rules.specs.Sizes.{stage_1_size, stage_size, combined_size, face_sum_size, flux_size}
 use Rattle.rules.proofs.GridLaws.{behind-lt, ahead-lt}
-use Rattle.rules.proofs.QuadraticLaws.{line-weight-le}
 use Rattle.step_upwind.specs.Upwind.{stage_length, as_stage, upwind_start}
 use Rattle.step_upwind.proofs.TendencyLaws.{upwind-east-at, upwind-north-at}
 use Rattle.step_fluxes.specs.Face.{combined, line_sum, face_flux}
@@ -31,7 +31,7 @@ use Rattle.whole.proofs.Sizes.{sizes, exacts, fits, exact}
 abbrev pub B : ℤ → ℤ
 B z = to_z w64 (of_z w64 z)
 
-pub combine-exact : {x y z : ℤ} → Within stage_size x → Within stage_size y → Within stage_size z → B (B (B x +ℤ B (pos 4 *ℤ B z)) +ℤ B y) ≡ combined x y z
+pub combine-exact : {x y z : ℤ} → Within limit x → Within stage_1_size y → Within stage_size z → B (B (B x +ℤ B (pos 4 *ℤ B z)) +ℤ B y) ≡ combined x y z
 combine-exact a b c = exact (search exacts depth 20) tt
 
 -- ---- the sum over a line of nodes
@@ -39,18 +39,19 @@ module _ (v : List ℤ) (start stride : ℕ) where
   abbrev pub term : ℕ → ℤ
   term r = pos (quadratic.line_weight r) *ℤ at v (start + stride * r)
 
-  pub term-within : AllWithin (6 * stage_size) v → (r : ℕ) → r < 3 → Within (24 * stage_size) (term r)
-  term-within h r l = within-le (within-mul {a = pos (quadratic.line_weight r)} {b = at v (start + stride * r)} (record { within = line-weight-le r l }) (h.all (start + stride * r))) (omega arith)
-
-  pub terms-within : AllWithin (6 * stage_size) v → (n : ℕ) → n ≤ 3 → Within face_sum_size (sum_ℤ n term)
-  unfolding sum
-  terms-within h n l = within-le (within-sum n term bound (λ r q. term-within h r (omega arith))) (omega (arith, sum_mono bound n 3 l))
+  -- the sum of the first n terms: the three weights make 6
+  pub terms-within : AllWithin combined_size v → (n : ℕ) → n ≤ 3 → Within face_sum_size (sum_ℤ n term)
+  unfolding sum quadratic
+  terms-within h n l = within-le (within-sum n term bound term-within) (sum_mono bound n 3 l)
     where
       bound : ℕ → ℕ
-      bound r = 24 * stage_size
+      bound r = quadratic.line_weight r * combined_size
+
+      term-within : (r : ℕ) → r < n → Within (bound r) (term r)
+      term-within r q = within-mul (within-pos (quadratic.line_weight r)) (h.all (start + stride * r))
 
 -- a weight, as the code gives it, times a value
-module _ {x w : ℤ} {r : ℕ} (h : Within (6 * stage_size) x) (l : r < 3) (g : Are 4 w (pos (quadratic.line_weight r))) where
+module _ {x w : ℤ} {r : ℕ} (h : Within combined_size x) (l : r < 3) (g : Are 4 w (pos (quadratic.line_weight r))) where
   pub term-fits : SFits w64 (B w *ℤ B x)
   term-fits = fits (search sizes depth 20) tt
 

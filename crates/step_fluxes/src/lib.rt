@@ -5,11 +5,11 @@
 ghost use Rattle.std.specs.Prelude.{◌≡◌, cond, ◌+◌, ◌*◌, ◌<◌, pos, ◌*ℤ◌, length};
 ghost use Rattle.whole.specs.Bound.{Within, Are, AllWithin};
 ghost use Rattle.whole.specs.Table.{table, at};
-ghost use Rattle.rules.specs.Field.{quadratic, faces};
+ghost use Rattle.rules.specs.Field.{limit, quadratic, faces};
 ghost use Rattle.rules.specs.Grid.{looks_east};
 ghost use Rattle.rules.specs.Stages.{flux_of};
 ghost use Rattle.rules.specs.Calls.{wind_at};
-ghost use Rattle.rules.specs.Sizes.{stage_size, face_sum_size, flux_size};
+ghost use Rattle.rules.specs.Sizes.{stage_1_size, stage_size, combined_size, face_sum_size, flux_size};
 ghost use Rattle.step_upwind.specs.Upwind.{stage_length};
 ghost use Rattle.step_fluxes.specs.Face.{combined, line_sum, face_flux};
 
@@ -18,15 +18,16 @@ use step_grid::Face;
 use step_tendency::Line;
 use step_upwind::{EAST_LINE, NORTH_LINE, Winds};
 
-// The stages' values as a face sums them, at every node. All three have the same donors, so that their sum has its upwind values, too. They
-// are lent as slices: three `Stage`s would have three winds, and a clause for each that its grid is the others'. They are read by number: of what a zip
-// with `iter_mut` has lent, a proof knows nothing afterwards.
+// The values of stages 0, 1 and 2, in this order, as a face sums them, at every node. All three have the same upwind elements, so that their sum has its
+// upwind values, too. Each is within its own size, so that the fluxes are as small as the rules make them. They are lent as slices: three `Stage`s
+// would have three winds, and a clause for each that its grid is the others'. They are read by number: of what a zip with `iter_mut` has lent, a
+// proof knows nothing afterwards.
 pub fn combine(values: &mut [i64], first: &[i64], second: &[i64], third: &[i64])
     requires first_len { length first.now ≡ length values.old }
     requires second_len { length second.now ≡ length values.old }
     requires third_len { length third.now ≡ length values.old }
-    requires all_within { AllWithin stage_size first.now }
-    requires all_within_2 { AllWithin stage_size second.now }
+    requires all_within { AllWithin limit first.now }
+    requires all_within_2 { AllWithin stage_1_size second.now }
     requires all_within_3 { AllWithin stage_size third.now }
     ensures { values.new ≡ table (length values.old) (λ i. combined (at first.now i) (at second.now i) (at third.now i)) }
 {
@@ -61,13 +62,13 @@ fn line(face: Face) -> Line
 }
 
 // The stages' combined values under the winds that carried them: nine numbers an element, as a stage has them. A struct of its own beside
-// `Stage`, since a number here is as large as six of a stage's.
+// `Stage`, since a number here is as large as a node's three values together, that of stage 2 four times.
 #[derive(Clone, Copy)]
 pub struct Combined<'s, 'w> {
     pub values: &'s [i64],
     pub winds: Winds<'w>,
     ghost all_nodes: { length values.now ≡ stage_length winds.grid.shape },
-    ghost small: { AllWithin (6 * stage_size) values.now },
+    ghost small: { AllWithin combined_size values.now },
 }
 
 impl Combined<'_, '_> {

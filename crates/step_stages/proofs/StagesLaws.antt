@@ -14,7 +14,7 @@ use Rattle.rules.specs.declared.Shape.{Shape}
 use Rattle.rules.specs.Field.{quadratic, elements, faces, Admitted, limit}
 use Rattle.rules.specs.Stages.{tendency, tabulated, stage0, stage1, stage2, tentative, Stages, stages}
 use Rattle.rules.proofs.StageBounds.{quadratic-bounded, φ0-within, t0-within, φ1-within, t1-within, φ2-within}
-use Rattle.rules.specs.Sizes.{earlier_sum_size, stage_size}
+use Rattle.rules.specs.Sizes.{earlier_sum_size, stage_1_size, stage_size}
 use Rattle.step_upwind.specs.Upwind.{stage_length, listed, as_stage}
 use Rattle.step_upwind.proofs.ListedLaws.{listed-at, listed-cong, listed-within}
 use Rattle.step_upwind.proofs.TendencyLaws.{tendency-cong}
@@ -123,8 +123,12 @@ module _ (g : Shape) (c : ℕ → ℤ) (p : List ℕ) where
     pub stage-small : (m : ℕ) → m < 3 → AllWithin stage_size (stage_list m)
     stage-small m h = listed-within (elements g) (stage_of s m) (λ e k _ _. stage-within m e k h)
 
+    -- stages 0 and 1 are smaller than that
     pub stored-small : AllWithin limit (stage_list 0)
     stored-small = listed-within (elements g) (stage_of s 0) (λ e k _ _. φ0-within quadratic quadratic-bounded g admits.nx-above admits.ny-above c wind-range p limit small e k)
+
+    pub stage-1-small : AllWithin stage_1_size (stage_list 1)
+    stage-1-small = listed-within (elements g) (stage_of s 1) (λ e k _ _. φ1-within quadratic quadratic-bounded g admits.nx-above admits.ny-above c wind-range p limit small e k)
 
     pub sums-small : (m : ℕ) → m < 3 → AllWithin earlier_sum_size (sums_list m)
     sums-small m h = listed-within (elements g) (sum_of s m) (λ e k _ _. sum-within m e k h)

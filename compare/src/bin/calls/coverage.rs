@@ -1,5 +1,5 @@
-//! What the accepted steps met: smoke over a face, a clipped mass, stage values below zero, cut amounts, and these together on one face. And
-//! what the accepted imports and maps did.
+//! What the accepted steps met: smoke over a face, a clipped mass, stage values below zero, cut amounts, and these together on one face; and that the
+//! rule for held smoke (document 02, 2026-05) changes nothing where no face is cut. And what the accepted imports and maps did.
 
 use crate::buffers::Buffers;
 use crate::call::{Call, Operation};
@@ -7,8 +7,10 @@ use reference::calls::signed_values;
 use reference::checks::{element_mass, smoke_part};
 use reference::closing::{floor_div, Nodes};
 use reference::flux::{corrected, donor, face_amounts, face_elements};
+use reference::held::Held;
 use reference::rng::Rng;
 use reference::shape::{NODES, PAGE_COLUMNS, PER_ELEMENT};
+use reference::step::step_with;
 use reference::tendency::{tendencies, Winds};
 use reference::Shape;
 
@@ -32,6 +34,7 @@ pub struct Coverage {
     looked_into: u64,
     below_zero: u64,
     cut: u64,
+    held: u64,
     together: u64,
     imports: u64,
     new_winds: u64,
@@ -46,8 +49,15 @@ pub struct Coverage {
 }
 
 impl Coverage {
-    /// Looks at an accepted call.
-    pub fn accepted(&mut self, rng: &mut Rng, call: &Call, answer: i64, before: &Buffers, after: &Buffers) {
+    /// Looks at an accepted call. The error is what both programs did against document 02.
+    pub fn accepted(
+        &mut self,
+        rng: &mut Rng,
+        call: &Call,
+        answer: i64,
+        before: &Buffers,
+        after: &Buffers,
+    ) -> Result<(), String> {
         let shape = Shape {
             nx: call.grid.nx,
             ny: call.grid.ny,
@@ -57,12 +67,13 @@ impl Coverage {
             Operation::Step(smoke) => {
                 self.clipped += u64::from(answer > 0);
                 self.above_limit += u64::from(answer > LIMIT);
-                self.step(rng, shape, smoke, before, after);
+                self.step(rng, shape, smoke, answer, before, after)?;
             }
             Operation::Import => self.import(shape, before, after),
             Operation::Map(_) => self.map(shape),
             _ => {}
         }
+        Ok(())
     }
 
     fn import(&mut self, shape: Shape, before: &Buffers, after: &Buffers) {
@@ -86,16 +97,17 @@ impl Coverage {
         rng: &mut Rng,
         shape: Shape,
         smoke: usize,
+        answer: i64,
         before: &Buffers,
         after: &Buffers,
-    ) {
+    ) -> Result<(), String> {
         let report = &after.report.lent()[..shape.wind_len()];
         self.steps += 1;
         self.moved += u64::from(report.iter().any(|&g| g != 0));
         self.changed += u64::from(before.field.lent() != after.field.lent());
         self.large += u64::from(shape.elements() >= LARGE);
         if shape.elements() > LOOKED_INTO || !rng.once_in(4) {
-            return;
+            return Ok(());
         }
         let part = smoke_part(before.field.lent(), shape, smoke);
         let faces = before.wind.lent();
@@ -104,6 +116,12 @@ impl Coverage {
         self.below_zero += u64::from(met.below_zero);
         self.cut += u64::from(met.cut);
         self.together += u64::from(met.together);
+        let other = other_without_held(shape, smoke, answer, before, after);
+        self.held += u64::from(other);
+        match other && !met.cut {
+            true => Err("no face is cut, and the rule for held smoke changes the step".into()),
+            false => Ok(()),
+        }
     }
 
     pub fn print(&self) {
@@ -120,6 +138,11 @@ impl Coverage {
             self.looked_into, self.below_zero, self.cut, self.together
         );
         println!(
+            "of those with a cut face {} are other without the rule for held smoke, of the {} without one none",
+            self.held,
+            self.looked_into - self.cut
+        );
+        println!(
             "{} imports accepted, {} that changed the wind, {} with surplus behind it, {} on {LARGE} elements or more",
             self.imports, self.new_winds, self.surplus, self.large_imports
         );
@@ -132,6 +155,35 @@ impl Coverage {
             self.read_back, self.written_again
         );
     }
+}
+
+/// Whether the step without the rule for held smoke gives another answer, field or report.
+fn other_without_held(
+    shape: Shape,
+    smoke: usize,
+    answer: i64,
+    before: &Buffers,
+    after: &Buffers,
+) -> bool {
+    let mut field = before.field.lent().to_vec();
+    let mut report = before.report.lent().to_vec();
+    let mut work = before.work.lent().to_vec();
+    let wind = before.wind.lent();
+    let Shape { nx, ny, k } = shape;
+    let given = step_with(
+        Held::Levelled,
+        &mut field,
+        wind,
+        &mut report,
+        &mut work,
+        nx,
+        ny,
+        k,
+        smoke,
+    );
+    given.map(|clipped| clipped as i64) != Ok(answer)
+        || field != after.field.lent()
+        || report != after.report.lent()
 }
 
 struct Met {

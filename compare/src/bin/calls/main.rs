@@ -49,7 +49,8 @@ impl Run {
             .map_err(|what| format!("{}\n{what}", described(&call, c)))?;
         if call.refusal(answer) == 0 {
             self.coverage
-                .accepted(rng, &call, answer, &c.before, &c.ours);
+                .accepted(rng, &call, answer, &c.before, &c.ours)
+                .map_err(|what| format!("{}\n{what}", described(&call, c)))?;
             self.coverage.read_back += u64::from(expected == Expected::SameField);
             self.coverage.written_again += u64::from(expected == Expected::SameFile);
         }

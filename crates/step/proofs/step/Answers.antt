@@ -15,7 +15,6 @@ use Rattle.rules.specs.Step.{tracer_step}
 use Rattle.rules.specs.Calls.{step, lent, wind_at, done, call}
 use Rattle.rules.proofs.PartLaws.{length-part, part-is-elements}
 use Rattle.rules.proofs.StepLaws.{length-after, report-length}
-use Rattle.rules.specs.Stages.{stages}
 use Rattle.field_layout.proofs.GridLaws.{refused-2}
 use Rattle.field.proofs.CheckLaws.{call-accepted, call-bad-shape}
 use Rattle.field_layout.proofs.PlaceLaws.{field_is, field-le, tracer-room}
@@ -126,9 +125,9 @@ returns-clause-gives c =
       ap accepted (c.step.ensures.clipped_after ∙ ap (λ d. d.clipped) same) ∙ q.0,
       (
         part-back g a.tracer s.result (s.result + n - s.result) _ (tracer_step quadratic g w p).part a.field.now s.ensures (add-sub_cancel_left s.result n ∙ c.elements_length.ensures)
-            (c.step.ensures.part_after ∙ ap (λ d. d.part) same) (length-after quadratic g h.shape.nx-above h.shape.ny-above w p (stages quadratic g w p)) ∙ q.1,
+            (c.step.ensures.part_after ∙ ap (λ d. d.part) same) (length-after quadratic g p _ _) ∙ q.1,
         (
-          report-back c.faces-faces.result _ a.report.now (c.faces-faces.ensures ∙ sym (report-length quadratic g h.shape.nx-above h.shape.ny-above w p (stages quadratic g w p))) report ∙ report-accepted _ _ a.report.now e,
+          report-back c.faces-faces.result _ a.report.now (c.faces-faces.ensures ∙ sym (report-length quadratic g p _)) report ∙ report-accepted _ _ a.report.now e,
           work-accepted g _ _ a.work.now x _ e (ap (λ k. x ++ drop k a.work.now) c.work_needed-needed.ensures) (search rules) (search rules),
         ),
       ),

@@ -5,12 +5,12 @@ use Rattle.whole.specs.Table.{at}
 use Rattle.rules.specs.Field.{quadratic}
 use Rattle.rules.specs.Limiter.{closed}
 use Rattle.rules.specs.Calls.{emitted}
-use Rattle.field_elements.proofs.LoadLaws.{own-tentative, emitted-is}
+use Rattle.field_elements.proofs.LoadLaws.{own-within, emitted-is}
 use Rattle.field_elements.proofs.element.emit.Goals as goal
 use Rattle.field_elements.proofs.element.emit.Goals.{After-close}
 
-pub invariant_of-close-clause-tentative : goal.invariant_of-close-clause-tentative
-invariant_of-close-clause-tentative c = rw c.values-psi.ensures (own-tentative c.args.part.now (omega (arith, c.requires)))
+pub invariant_of-close-clause-all_within : goal.invariant_of-close-clause-all_within
+invariant_of-close-clause-all_within c = rw c.values-psi.ensures (own-within c.args.part.now (omega (arith, c.requires)))
 
 -- what the closing gives
 closed-is : (c : After-close) → closed quadratic (at c.values-psi.result) (c.mass.result + c.args.q) ≡ emitted quadratic 0 c.args.q c.args.part.now

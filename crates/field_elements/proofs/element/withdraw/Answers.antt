@@ -5,12 +5,12 @@ use Rattle.whole.specs.Table.{at}
 use Rattle.rules.specs.Field.{quadratic}
 use Rattle.rules.specs.Limiter.{closed_unlevelled}
 use Rattle.rules.specs.Calls.{withdrawn}
-use Rattle.field_elements.proofs.LoadLaws.{own-tentative, withdrawn-is}
+use Rattle.field_elements.proofs.LoadLaws.{own-within, withdrawn-is}
 use Rattle.field_elements.proofs.element.withdraw.Goals as goal
 use Rattle.field_elements.proofs.element.withdraw.Goals.{After-close_unlevelled}
 
-pub invariant_of-close_unlevelled-clause-tentative : goal.invariant_of-close_unlevelled-clause-tentative
-invariant_of-close_unlevelled-clause-tentative c = rw c.values-psi.ensures (own-tentative c.args.part.now (omega (arith, c.requires)))
+pub invariant_of-close_unlevelled-clause-all_within : goal.invariant_of-close_unlevelled-clause-all_within
+invariant_of-close_unlevelled-clause-all_within c = rw c.values-psi.ensures (own-within c.args.part.now (omega (arith, c.requires)))
 
 -- what the closing gives
 closed-is : (c : After-close_unlevelled) → closed_unlevelled quadratic (at c.values-psi.result) (c.mass.result - c.args.q) ≡ withdrawn quadratic 0 c.args.q c.args.part.now

@@ -8,7 +8,7 @@ use Rattle.whole.proofs.Sizes.{exacts, exact, back_is, read_back}
 use Rattle.rules.specs.Field.{quadratic}
 use Rattle.rules.specs.Limiter.{signed_sum, mean_shift, closed, adjusted, closed_unlevelled}
 use Rattle.rules.specs.Sizes.{shift_size}
-use Rattle.limiter.specs.Sizes.{shifted}
+use Rattle.limiter.specs.Shifted.{shifted}
 use Rattle.limiter.proofs.Laws.{sum-shifted}
 use Rattle.limiter.proofs.Closing.close.Goals as goal
 use Rattle.limiter.proofs.Closing.close.Goals.{After-mean_shift-shift}
@@ -33,7 +33,7 @@ invariant_of-raised c =
     let sum : to_z w64 (of_z w64 (to_z w64 (of_z w64 c.weighted_sum-sum.result) +ℤ to_z w64 (of_z w64 (pos 36 *ℤ to_z w64 (of_z w64 c.mean_shift-shift.result)))))
     ≡ signed_sum quadratic (at p) +ℤ pos 36 *ℤ mean_shift quadratic (at p) c.args.self.target = exact (search exacts depth 20) tt in
     record {
-      small = record { small = subst (Within shift_size) (sym (shift_is b)) s.bound };
+      small = subst (Within shift_size) (sym (shift_is b)) s.bound;
       sum_is = sum ∙ ap (λ z. signed_sum quadratic (at p) +ℤ pos 36 *ℤ z) (sym (shift_is b)) ∙ sum-shifted p _;
     }
 

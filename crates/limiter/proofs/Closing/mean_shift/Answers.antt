@@ -12,7 +12,7 @@ use Rattle.whole.proofs.BoundLaws.{within-le, within-sub, within-floor}
 use Rattle.whole.proofs.Sizes.{sizes, exacts, exact, fits, within, back_is}
 use Rattle.rules.specs.Field.{quadratic, weight_sum}
 use Rattle.rules.specs.Limiter.{signed_sum, mean_shift}
-use Rattle.rules.specs.Sizes.{shift_size, target_size, tentative_size}
+use Rattle.rules.specs.Sizes.{shift_size, target_size, closing_size}
 use Rattle.limiter.proofs.Laws.{sum-within}
 use Rattle.limiter.proofs.Closing.mean_shift.Goals as goal
 use Rattle.limiter.proofs.Closing.mean_shift.Goals.{Start}
@@ -21,8 +21,8 @@ use Rattle.limiter.proofs.Closing.mean_shift.Goals.{Start}
 target_is : (c : Start) → Are target_size (to_z w64 c.args.self.target) (pos c.args.self.target)
 target_is c = record { same = to_z_pos w64 (omega (arith, c.args.self.target_le_target_size)); bound = record { within = c.args.self.target_le_target_size } }
 
-sum_is : (c : Start) → Are (36 * tentative_size) c.args.sum (signed_sum quadratic (at c.args.self.psi.now))
-sum_is c = record { same = c.requires; bound = sum-within c.args.self.psi.now c.args.self.tentative }
+sum_is : (c : Start) → Are (36 * closing_size) c.args.sum (signed_sum quadratic (at c.args.self.psi.now))
+sum_is c = record { same = c.requires; bound = sum-within c.args.self.psi.now c.args.self.all_within }
 
 pub overflow_sub-self : goal.overflow_sub-self
 overflow_sub-self c = let t = target_is (goal.at.overflow_sub-self c).Start in let s = sum_is (goal.at.overflow_sub-self c).Start in fits (search sizes depth 20) tt

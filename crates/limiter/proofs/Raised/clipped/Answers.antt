@@ -11,7 +11,7 @@ use Rattle.rules.specs.Field.{quadratic, weighted}
 use Rattle.rules.specs.Limiter.{signed_sum, clipped}
 use Rattle.rules.specs.Sizes.{levelled_size}
 use Rattle.rules.proofs.ClippedLaws.{clipped-difference}
-use Rattle.limiter.specs.Sizes.{shifted}
+use Rattle.limiter.specs.Shifted.{shifted}
 use Rattle.limiter.proofs.Laws.{cut_value, cut_sum, sum-shifted-within, clipped-le_size}
 use Rattle.limiter.proofs.Raised.clipped.Goals as goal
 use Rattle.limiter.proofs.Raised.clipped.Goals.{Start}
@@ -20,14 +20,14 @@ use Rattle.limiter.proofs.Raised.clipped.Goals.{Start}
 p-is : (c : Start) → let a = c.args.self in Are (36 * levelled_size) (to_z w64 c.args.p) (pos (weighted quadratic (cut_value a.closing.psi.now a.shift)))
 p-is c =
     let a = c.args.self in
-    let small = cut_sum a.closing.psi.now a.shift a.closing.tentative a.small in
+    let small = cut_sum a.closing.psi.now a.shift a.closing.all_within a.small in
     record { same = to_z_pos w64 (omega (arith, c.requires, small)) ∙ ap pos c.requires; bound = record { within = small } }
 
 sum_is : (c : Start) → let a = c.args.self in Are (36 * levelled_size) a.sum (signed_sum quadratic (shifted a.closing.psi.now a.shift))
-sum_is c = let a = c.args.self in record { same = a.sum_is; bound = sum-shifted-within a.closing.psi.now a.shift a.closing.tentative a.small }
+sum_is c = let a = c.args.self in record { same = a.sum_is; bound = sum-shifted-within a.closing.psi.now a.shift a.closing.all_within a.small }
 
 pub overflow_cast-p : goal.overflow_cast-p
-overflow_cast-p c = let a = c.args.self in record { sfits = omega (arith, c.requires, cut_sum a.closing.psi.now a.shift a.closing.tentative a.small) }
+overflow_cast-p c = let a = c.args.self in record { sfits = omega (arith, c.requires, cut_sum a.closing.psi.now a.shift a.closing.all_within a.small) }
 
 pub overflow_sub-p : goal.overflow_sub-p
 overflow_sub-p c = let p = p-is (goal.at.overflow_sub-p c).Start in let s = sum_is (goal.at.overflow_sub-p c).Start in fits (search sizes depth 20) tt
@@ -48,4 +48,4 @@ pub returns-clause-upper_bound : goal.returns-clause-upper_bound
 returns-clause-upper_bound c =
     let b = (goal.at.returns-clause-upper_bound c).Start in
     let a = b.args.self in
-    omega (arith, c.unsigned_abs.ensures.value, ap nat_abs (difference b), clipped-le_size a.closing.psi.now a.shift a.closing.tentative a.small)
+    omega (arith, c.unsigned_abs.ensures.value, ap nat_abs (difference b), clipped-le_size a.closing.psi.now a.shift a.closing.all_within a.small)

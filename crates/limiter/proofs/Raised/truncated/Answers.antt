@@ -26,8 +26,8 @@ pub returns-clause-value : goal.returns-clause-value
 unfolding truncated
 returns-clause-value c =
     let a = c.args.self in
-    let h = a.closing.tentative.small c.args.k c.requires in
-    let b = a.small.small in
+    let h = a.closing.all_within.all c.args.k in
+    let b = a.small in
     let z = at a.closing.psi.now c.args.k +ℤ a.shift in
     let sum : to_z w64 (of_z w64 (to_z w64 (of_z w64 (at a.closing.psi.now c.args.k)) +ℤ to_z w64 (of_z w64 a.shift))) ≡ z = exact (search exacts depth 20) tt in
     c.unwrap_or.ensures ∙ as-positive c.try_from.result z (omega (arith, (within-add h b).within)) (subst (λ y. OkIff c.try_from.result (FitsUnsignedBits 64 y) (nat_abs y)) sum c.try_from.ensures)

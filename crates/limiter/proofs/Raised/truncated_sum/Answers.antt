@@ -16,7 +16,7 @@ pub sum-requires-clause-fits : goal.sum-requires-clause-fits
 sum-requires-clause-fits c =
     let a = c.args.self in
     let t = term (goal.at.sum-requires-clause-fits c).Start in
-    below-fits t 9 (below-items _ t _ 9 (λ x r q h k. search (rules, tests)) c.map.ensures.source c.map.ensures.closure) (omega (arith, weighted_to-all (cut_value a.closing.psi.now a.shift), cut_sum a.closing.psi.now a.shift a.closing.tentative a.small))
+    below-fits t 9 (below-items _ t _ 9 (λ x r q h k. search (rules, tests)) c.map.ensures.source c.map.ensures.closure) (omega (arith, weighted_to-all (cut_value a.closing.psi.now a.shift), cut_sum a.closing.psi.now a.shift a.closing.all_within a.small))
 
 pub returns : goal.returns
 returns c =

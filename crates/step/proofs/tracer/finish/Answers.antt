@@ -1,14 +1,13 @@
 use Rattle.std.proofs.Common.{◌≡◌, ◌∙◌, ap, refl, ◌*◌, ◌<◌, arith}
 use native.Mathlib.Nat.{add-sub_cancel_left}
-use Rattle.std.proofs.lemmas.List.{take_rest}
 use lib.ListN.{length}
 use Rattle.whole.specs.Sum.{sum}
 use Rattle.rules.specs.Field.{elements}
 use Rattle.field_layout.proofs.PlaceLaws.{elements-are}
 use Rattle.whole.proofs.FillLaws.{blocks-none, blocks-next, blocks-whole}
 use Rattle.whole.proofs.SumLaws.{sum_more}
-use Rattle.step.specs.Finish.{closed_element}
-use Rattle.step.proofs.Laws.{new-length, tentative-lent, closing-lent}
+use Rattle.step.specs.Finish.{closed_lent}
+use Rattle.step.proofs.Laws.{new-length, closing-lent}
 use Rattle.step.proofs.tracer.finish.Goals as goal
 use Rattle.step.proofs.tracer.finish.Goals.{In-loop-index, After-loop-index, Start}
 
@@ -23,16 +22,13 @@ pub loop-index-init : goal.loop-index-init
 unfolding sum
 loop-index-init c = (blocks-none (omega (arith, ten (goal.at.loop-index-init c).Start)), (refl, omega arith))
 
-pub invariant_of-closing-clause-tentative : goal.invariant_of-closing-clause-tentative
-invariant_of-closing-clause-tentative c = let h = c.requires in rw (take_rest c.args.psi.now (c.loop-index.index * 9)) (tentative-lent c.args.grid.shape c.args.psi.now c.loop-index.index h.psi_len h.all_within (inside (goal.at.invariant_of-closing-clause-tentative c).In-loop-index))
-
 pub loop-index-preserved : goal.loop-index-preserved
 loop-index-preserved c =
     let a = c.args in
     let l = c.loop-index in
-    let same = closing-lent a.grid.shape a.psi.now a.masses.now a.report.now l.index (take_rest a.psi.now (l.index * 9)) c.target.ensures.value in
-    let closing = closed_element a.grid.shape a.psi.now a.masses.now a.report.now in (
-      blocks-next (new-length a.grid.shape a.psi.now a.masses.now a.report.now) l.invariant.0 (inside (goal.at.loop-index-preserved c).In-loop-index) refl (add-sub_cancel_left (l.index * 10) 10)
+    let same = closing-lent a.grid.shape a.psi.now a.rises.now a.masses.now a.report.now l.index c.with_held_flux.ensures.values c.target.ensures.value in
+    let closing = closed_lent a.grid.shape a.psi.now a.rises.now a.masses.now a.report.now in (
+      blocks-next (new-length a.grid.shape a.psi.now a.rises.now a.masses.now a.report.now) l.invariant.0 (inside (goal.at.loop-index-preserved c).In-loop-index) refl (add-sub_cancel_left (l.index * 10) 10)
           (c.close-clipped.ensures.numbers ∙ ap (λ x. x.numbers) same),
       (
         omega (arith, l.invariant.1.0, c.close-clipped.ensures.clipped, ap (λ x. x.clipped) same, sum_more l.index (λ e. (closing e).clipped)),
@@ -50,4 +46,4 @@ returns-clause-numbers c = blocks-whole c.loop-index.invariant.0 (omega (arith, 
 pub returns-clause-clipped : goal.returns-clause-clipped
 returns-clause-clipped c =
     let a = c.args in
-    c.loop-index.invariant.1.0 ∙ ap (λ n. sum n (λ e. (closed_element a.grid.shape a.psi.now a.masses.now a.report.now e).clipped)) (ended (goal.at.returns-clause-clipped c).After-loop-index)
+    c.loop-index.invariant.1.0 ∙ ap (λ n. sum n (λ e. (closed_lent a.grid.shape a.psi.now a.rises.now a.masses.now a.report.now e).clipped)) (ended (goal.at.returns-clause-clipped c).After-loop-index)

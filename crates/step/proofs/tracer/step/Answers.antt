@@ -1,16 +1,15 @@
 -- A step's passes: each section is the rules' list after its call (`TracerLaws`), so that what the next call asks holds.
 use mathlib.Core.Path.{◌≡◌, sym, subst, ◌∙◌}
-use Prim.Native.Nat.{◌*◌}
 use native.Mathlib.Omega.{arith}
 use lib.ListN.{length}
 use Rattle.whole.specs.Bound.{AllWithin}
 use Rattle.rules.specs.Field.{limit}
-use Rattle.rules.specs.Sizes.{stage_size, earlier_sum_size, flux_size, tentative_size}
-use Rattle.rules.specs.Step.{tracer_step}
+use Rattle.rules.specs.Sizes.{stage_1_size, stage_size, combined_size, earlier_sum_size}
+use Rattle.rules.specs.Step.{finish, tracer_step}
 use Rattle.field_layout.proofs.PlaceLaws.{elements-are}
-use Rattle.step.proofs.TracerLaws.{Given, mass-small, phi, sums, phi-small, phi0-small, earlier-small, psi-small, stored, passed-1, passed-2, advanced, together-small, put_together, fluxed, fluxes-small, masses, weighed, drained, limited, reported, amounts-of, balance-of, all_closed, all_clipped}
+use Rattle.step.proofs.TracerLaws.{Given, mass-small, phi, sums, phi-small, phi0-small, phi1-small, earlier-small, stored, passed-1, passed-2, advanced, together-small, put_together, fluxed, flux_list, fluxes-lent, masses, weighed, drained, limited, reported, limited-lent, rise_list, raised, values-of, amounts-of, balance-of, all_closed, all_clipped}
 use Rattle.step.proofs.tracer.step.Goals as goal
-use Rattle.step.proofs.tracer.step.Goals.{After-split_at_mut-outflows, After-start, After-fill, After-advance, After-advance-2, After-advance-3, After-combine, After-fluxes, After-masses, After-outflows, After-limit, Start}
+use Rattle.step.proofs.tracer.step.Goals.{After-split_at_mut-outflows, After-start, After-fill, After-advance, After-advance-2, After-advance-3, After-combine, After-fluxes, After-masses, After-outflows, After-limit, After-rises, Start}
 
 given : (c : Start) → Given c.args.winds.grid.shape c.args.winds.wind.now c.args.part.now
 given c = let h = c.requires in record { admits = c.args.winds.grid.admitted; winds = c.args.winds.in_range; numbers = h.part_len; within-limit = h.part_bound }
@@ -78,12 +77,12 @@ invariant_of-advance-3-clause-small c =
 pub combine-requires-clause-all_within : goal.combine-requires-clause-all_within
 combine-requires-clause-all_within c =
     let h = given (goal.at.combine-requires-clause-all_within c).Start in
-    subst (AllWithin stage_size) (sym ((at-2 (goal.at.combine-requires-clause-all_within c).After-advance-2 h).0)) (phi-small h 0 (omega arith))
+    subst (AllWithin limit) (sym ((at-2 (goal.at.combine-requires-clause-all_within c).After-advance-2 h).0)) (phi0-small h)
 
 pub combine-requires-clause-all_within_2 : goal.combine-requires-clause-all_within_2
 combine-requires-clause-all_within_2 c =
     let h = given (goal.at.combine-requires-clause-all_within_2 c).Start in
-    subst (AllWithin stage_size) (sym ((at-2 (goal.at.combine-requires-clause-all_within_2 c).After-advance-2 h).1.0)) (phi-small h 1 (omega arith))
+    subst (AllWithin stage_1_size) (sym ((at-2 (goal.at.combine-requires-clause-all_within_2 c).After-advance-2 h).1.0)) (phi1-small h)
 
 pub combine-requires-clause-all_within_3 : goal.combine-requires-clause-all_within_3
 combine-requires-clause-all_within_3 c =
@@ -96,7 +95,7 @@ invariant_of-fluxes-clause-small c =
     let h = given (goal.at.invariant_of-fluxes-clause-small c).Start in
     let q = at-2 (goal.at.invariant_of-fluxes-clause-small c).After-advance-2 h in
     let v = put_together h (length c.advance-3.new.sums) (omega (arith, c.split_at_mut-sums.ensures.front_len, c.elements-n.ensures)) q.0 q.1.0 q.1.1.0 c.combine.ensures in
-    subst (AllWithin (6 * stage_size)) (sym v) (together-small h)
+    subst (AllWithin combined_size) (sym v) (together-small h)
 
 pub masses-requires-clause-part_len : goal.masses-requires-clause-part_len
 masses-requires-clause-part_len c = omega (arith, c.requires.part_len, elements-are c.args.winds.grid.shape, c.split_at_mut-masses.ensures.front_len, c.elements-n.ensures)
@@ -111,7 +110,7 @@ outflows-requires-clause-all_within c =
     let h = given (goal.at.outflows-requires-clause-all_within c).Start in
     let q = at-2 (goal.at.outflows-requires-clause-all_within c).After-advance-2 h in
     let v = put_together h (length c.advance-3.new.sums) (omega (arith, c.split_at_mut-sums.ensures.front_len, c.elements-n.ensures)) q.0 q.1.0 q.1.1.0 c.combine.ensures in
-    subst (AllWithin flux_size) (sym (fluxed h v c.fluxes.ensures)) (fluxes-small h)
+    fluxes-lent h (fluxed h v c.fluxes.ensures)
 
 pub limit-requires-clause-amounts : goal.limit-requires-clause-amounts
 limit-requires-clause-amounts c =
@@ -122,13 +121,8 @@ limit-requires-clause-amounts c =
     let m = weighed h (c.split_at_mut-masses.ensures.front_len ∙ c.elements-n.ensures) c.masses.ensures in
     amounts-of h f (drained h f c.outflows.ensures) m
 
-pub finish-requires-clause-all_within : goal.finish-requires-clause-all_within
-finish-requires-clause-all_within c =
-    let h = given (goal.at.finish-requires-clause-all_within c).Start in
-    subst (AllWithin tentative_size) (sym (at-3 (goal.at.finish-requires-clause-all_within c).After-advance-3 h)) (psi-small h)
-
--- the masses, and the report
-reported-at : (c : After-limit) (h : Given c.args.winds.grid.shape c.args.winds.wind.now c.args.part.now) → (c.masses.new.masses ≡ masses h) × (c.limit.new.report ≡ limited h)
+-- the fluxes, the masses, and the report
+reported-at : (c : After-limit) (h : Given c.args.winds.grid.shape c.args.winds.wind.now c.args.part.now) → (c.fluxes.new.fluxes ≡ flux_list h) × ((c.masses.new.masses ≡ masses h) × (c.limit.new.report ≡ limited h))
 reported-at c h =
     let n = c.elements-n.ensures in
     let k = c.split_at_mut-sums.ensures.front_len in
@@ -137,28 +131,47 @@ reported-at c h =
     let v = put_together h (length c.advance-3.new.sums) (omega (arith, k, n)) q.0 q.1.0 q.1.1.0 c.combine.ensures in
     let f = fluxed h v c.fluxes.ensures in
     let m = weighed h (c.split_at_mut-masses.ensures.front_len ∙ n) c.masses.ensures in
-    (m, reported h f (drained h f c.outflows.ensures) m c.limit.ensures)
+    (f, (m, reported h f (drained h f c.outflows.ensures) m c.limit.ensures))
+
+pub rises-requires-clause-all_within : goal.rises-requires-clause-all_within
+rises-requires-clause-all_within c =
+    let h = given (goal.at.rises-requires-clause-all_within c).Start in
+    fluxes-lent h (reported-at (goal.at.rises-requires-clause-all_within c).After-limit h).0
+
+pub rises-requires-clause-all_within_2 : goal.rises-requires-clause-all_within_2
+rises-requires-clause-all_within_2 c =
+    let h = given (goal.at.rises-requires-clause-all_within_2 c).Start in
+    limited-lent h (reported-at (goal.at.rises-requires-clause-all_within_2 c).After-limit h).1.1
+
+-- what the faces rises back
+held-at : (c : After-rises) (h : Given c.args.winds.grid.shape c.args.winds.wind.now c.args.part.now) → c.rises.new.fluxes ≡ rise_list h
+held-at c h = let r = reported-at (goal.at-After-rises c).After-limit h in raised h r.0 r.1.1 c.rises.ensures
+
+pub finish-requires-clause-values : goal.finish-requires-clause-values
+finish-requires-clause-values c =
+    let h = given (goal.at.finish-requires-clause-values c).Start in
+    values-of h (at-3 (goal.at.finish-requires-clause-values c).After-advance-3 h) (held-at (goal.at.finish-requires-clause-values c).After-rises h)
 
 pub finish-requires-clause-balance : goal.finish-requires-clause-balance
 finish-requires-clause-balance c =
     let h = given (goal.at.finish-requires-clause-balance c).Start in
     let r = reported-at (goal.at.finish-requires-clause-balance c).After-limit h in
-    balance-of h r.0 r.1
+    balance-of h r.1.0 r.1.1
 
 pub returns-clause-part_after : goal.returns-clause-part_after
-unfolding tracer_step
+unfolding tracer_step finish
 returns-clause-part_after c =
     let h = given (goal.at.returns-clause-part_after c).Start in
     let r = reported-at (goal.at.returns-clause-part_after c).After-limit h in
-    all_closed h (at-3 (goal.at.returns-clause-part_after c).After-advance-3 h) r.0 r.1 c.finish.ensures.numbers
+    all_closed h (at-3 (goal.at.returns-clause-part_after c).After-advance-3 h) (held-at (goal.at.returns-clause-part_after c).After-rises h) r.1.0 r.1.1 c.finish.ensures.numbers
 
 pub returns-clause-report_after : goal.returns-clause-report_after
-unfolding tracer_step
-returns-clause-report_after c = (reported-at (goal.at.returns-clause-report_after c).After-limit (given (goal.at.returns-clause-report_after c).Start)).1
+unfolding tracer_step finish
+returns-clause-report_after c = (reported-at (goal.at.returns-clause-report_after c).After-limit (given (goal.at.returns-clause-report_after c).Start)).1.1
 
 pub returns-clause-clipped_after : goal.returns-clause-clipped_after
-unfolding tracer_step
+unfolding tracer_step finish
 returns-clause-clipped_after c =
     let h = given (goal.at.returns-clause-clipped_after c).Start in
     let r = reported-at (goal.at.returns-clause-clipped_after c).After-limit h in
-    all_clipped h (at-3 (goal.at.returns-clause-clipped_after c).After-advance-3 h) r.0 r.1 c.finish.ensures.clipped
+    all_clipped h (at-3 (goal.at.returns-clause-clipped_after c).After-advance-3 h) (held-at (goal.at.returns-clause-clipped_after c).After-rises h) r.1.0 r.1.1 c.finish.ensures.clipped
