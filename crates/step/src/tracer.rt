@@ -104,6 +104,6 @@ pub(crate) fn step(part: &mut [u32], winds: Winds, report: &mut [i32], work: &mu
     step_correction::masses(masses, part);
     step_correction::outflows(outflows, fluxes, grid);
     step_correction::limit(report, fluxes, outflows, masses, grid);
-    held::rises(fluxes, report); // over the fluxes, which nothing reads any more
+    held::rises(fluxes, report); // over the fluxes, which nothing else reads any more
     finish(part, psi, fluxes, masses, report, grid)
 }

@@ -1,14 +1,16 @@
 -- q of a face by one division toward zero, and what an element's four sides add at its nodes, as the code reads them.
-use mathlib.Core.Path.{◌≡◌, refl, sym, ap, ◌∙◌}
+use mathlib.Core.Path.{◌≡◌, refl, sym, ap, subst, ◌∙◌}
 use mathlib.Core.List.{List, [], ◌∷◌}
 use Prim.Native.Nat.{ℕ, zero, suc, ◌+◌, ◌*◌, ◌/◌, ◌%◌, ◌<◌}
 use native.Mathlib.Omega.{arith}
-use lib.IntN.{ℤ, pos, negsuc, neg_ℤ, nat_abs, ◌+ℤ◌, ◌-ℤ◌, +ℤ_idl, +ℤ_idr}
+use lib.IntN.{ℤ, pos, neg_ℤ, nat_abs, ◌+ℤ◌, ◌-ℤ◌, +ℤ_idl, +ℤ_idr}
 use lib.Signed.{quot_z}
+use mir.Syntax.{w64}
+use mir.Val.{to_z, of_z}
 use Rattle.whole.specs.Bound.{Within, AllWithin}
 use Rattle.whole.specs.Sum.{sum}
 use Rattle.whole.specs.Table.{table, at}
-use Rattle.whole.proofs.BoundLaws.{within-le, within-add, within-neg, within-pos}
+use Rattle.whole.proofs.BoundLaws.{within-le, within-add, within-neg, within-pos, within-back}
 use Rattle.whole.proofs.TableLaws.{get_d-table, table-all, table-cong}
 use Rattle.rules.specs.declared.Shape.{Shape}
 use Rattle.rules.specs.Field.{quadratic, elements, north_face, Admitted}
@@ -18,25 +20,20 @@ use Rattle.rules.specs.HeldFlux.{node_rise, with_held_flux}
 use Rattle.rules.specs.Sizes.{rise_size, tentative_size, closing_size}
 use Rattle.rules.proofs.HeldLaws.{line_rise, held-by-sides}
 use Rattle.step_upwind.specs.Upwind.{as_stage}
+use Rattle.step_correction.proofs.Laws.{quotient}
 
 -- the sum of ω along a face
 pub six : sum quadratic.side quadratic.line_weight ≡ 6
 unfolding sum quadratic
 six = refl
 
--- toward zero, a quotient keeps the sign and floors the size
-quotient : (z : ℤ) (n : ℕ) → quot_z z (pos (suc n)) ≡ with_sign z (nat_abs z / suc n)
-unfolding with_sign
-quotient (pos a) n = refl
-quotient (negsuc a) n = refl
-
 pub rise-divides : (flux limited : ℤ) → quot_z (flux -ℤ limited) (pos 6) ≡ node_rise quadratic flux limited
 unfolding node_rise
-rise-divides flux limited = quotient (flux -ℤ limited) 5 ∙ ap (λ n. with_sign (flux -ℤ limited) (nat_abs (flux -ℤ limited) / n)) (sym six)
+rise-divides flux limited = quotient (flux -ℤ limited) 6 ∙ ap (λ n. with_sign (flux -ℤ limited) (nat_abs (flux -ℤ limited) / n)) (sym six)
 
 -- ---- what is added at the places of a line
 module _ {first last : ℤ} (f : Within rise_size first) (l : Within rise_size last) where
-  pub line_rises-within : AllWithin rise_size (neg_ℤ first ∷ pos 0 ∷ last ∷ [])
+  line_rises-within : AllWithin rise_size (neg_ℤ first ∷ pos 0 ∷ last ∷ [])
   line_rises-within = record { all = each }
     where
       each : (i : ℕ) → Within rise_size (at (neg_ℤ first ∷ pos 0 ∷ last ∷ []) i)
@@ -45,7 +42,14 @@ module _ {first last : ℤ} (f : Within rise_size first) (l : Within rise_size l
       each (suc (suc zero)) = l
       each (suc (suc (suc i))) = within-le (within-pos 0) (omega arith)
 
--- the same by the rules
+-- a line of two numbers that are read
+abbrev B : ℤ → ℤ
+B z = to_z w64 (of_z w64 z)
+
+pub line-small : (rises : List ℤ) (i j : ℕ) {l : List ℤ} → AllWithin rise_size rises → l ≡ neg_ℤ (B (at rises i)) ∷ pos 0 ∷ B (at rises j) ∷ [] → AllWithin rise_size l
+line-small rises i j h e = subst (AllWithin rise_size) (sym e) (line_rises-within (within-back w64 (at rises i) (h.all i)) (within-back w64 (at rises j) (h.all j)))
+
+-- a line by the rules
 pub line_rises-are : (first last : ℤ) (a : ℕ) → a < 3 → at (neg_ℤ first ∷ pos 0 ∷ last ∷ []) a ≡ line_rise quadratic first last a
 unfolding quadratic
 line_rises-are first last zero h = sym (+ℤ_idl (neg_ℤ first))
