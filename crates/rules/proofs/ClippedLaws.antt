@@ -107,7 +107,7 @@ module _ (κ : Kind) (g : Shape) (s : ℕ) (field : List ℕ) where
 
 -- ---- a step's: 0 exactly where no levelled number of any element was negative
 module _ (κ : Kind) (g : Shape) (c : ℕ → ℤ) (p : List ℕ) where
-  -- what is closed, ψ with held flux; and the levelled numbers of element e, for its target
+  -- the step's stages, fluxes and report
   abbrev s : Stages
   s = stages κ g c p
 
@@ -117,6 +117,7 @@ module _ (κ : Kind) (g : Shape) (c : ℕ → ℤ) (p : List ℕ) where
   abbrev r : List ℤ
   r = report κ g p G
 
+  -- the levelled numbers of element e, of ψ with held flux, for its target
   abbrev levelled : ℕ → ℕ → ℤ
   levelled e = adjusted κ (with_held_flux κ g (rises κ G r) s.ψ e) (target_mass κ g p r e)
 

@@ -67,6 +67,7 @@ arrange m a b c d = eq-parts (omega (
   add_parts m a,
 ))
 
+-- a difference, its second number first
 swap : (a b : ℤ) → a -ℤ b ≡ neg_ℤ b +ℤ a
 swap a b = eq-parts (omega (arith, sub-parts-of a b, add_parts (neg_ℤ b) a, positive-neg b, negative-neg b))
 

@@ -17,7 +17,8 @@ use Rattle.rules.specs.Correction.{donor, outflow, with_sign, cut, limited_flux,
 use Rattle.rules.specs.HeldFlux.{node_rise, face_rise, with_held_flux}
 use Rattle.rules.specs.Step.{Stepped, fluxes, report, closed_element, finish, tracer_step, step_without_held_flux}
 
--- two elements, the west one with its values at its east face; both east faces have the largest wind, and the second one's flux is cut
+-- two elements, the west one with its values at its east face; both east faces have the largest wind, and both fluxes are cut, 237 to 217 and −24 to
+-- −22, so that q is 3 at the first face and 0 at the second
 abbrev shape : Shape
 shape = record { nx = 2; ny = 1; tracers = 1 }
 

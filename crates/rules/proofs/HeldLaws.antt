@@ -34,11 +34,13 @@ use Rattle.rules.proofs.StepLaws.{report-length}
 abbrev pub line_rise : Kind → ℤ → ℤ → ℕ → ℤ
 line_rise κ first last a = only (eqb a (last_place κ)) last -ℤ only (eqb a 0) first
 
+-- two tests, one after the other
 both : (a b : Bool) (x : ℤ) → cond (a && b) x (pos 0) ≡ only a (only b x)
 both true b x = refl
 both false b x = refl
 
 module _ (κ : Kind) (g : Shape) (q : ℕ → ℤ) (e k : ℕ) (d : Direction g) (place : ℕ) (places : (f : ℕ) → f < elements g → cond (looks_east g (d.at f)) (k % κ.side) (k / κ.side) ≡ place) where
+  -- what the faces of one direction add at node k of element e
   rise-one-way : e < elements g → sum_ℤ (elements g) (λ f. face_rise κ g q e k (d.at f)) ≡ line_rise κ (q (d.at (d.back e))) (q (d.at e)) place
   unfolding face_rise
   rise-one-way h =
