@@ -21,7 +21,7 @@ static void once(step_fn *step, struct run *r, const int16_t *wind, size_t nx, s
 {
     size_t n = nx * ny;
     double t = now();
-    int64_t answer = step(r->field, 10 * n, wind, 2 * n, r->report, 2 * n, r->work, 64 * n, nx, ny, 1, 0);
+    int64_t answer = step(r->field, part_length(n), wind, 2 * n, r->report, 2 * n, r->work, 64 * n, nx, ny, 1, 0);
     t = now() - t;
     if (answer < 0)
         exit(1);
@@ -32,7 +32,7 @@ static void once(step_fn *step, struct run *r, const int16_t *wind, size_t nx, s
 
 static struct run made(size_t n)
 {
-    struct run r = {calloc(10 * n, 4), calloc(2 * n, 4), calloc(64 * n, 8), 0, 1e18};
+    struct run r = {calloc(part_length(n), 4), calloc(2 * n, 4), calloc(64 * n, 8), 0, 1e18};
     return r;
 }
 
@@ -44,16 +44,15 @@ static int compare(size_t nx, size_t ny)
     free(plain.work);
     plain.work = proved.work;
     int16_t *wind = calloc(2 * n, 2);
-    for (size_t i = 0; i < 10 * n; i++)
-        proved.field[i] = i % 10 == 9 ? (uint32_t)draw(36) : (uint32_t)draw(100000000 / (40 * n));
+    draw_smoke(proved.field, n);
     for (size_t f = 0; f < 2 * n; f++)
         wind[f] = (int16_t)((int)draw(2049) - 1024);
-    memcpy(plain.field, proved.field, 40 * n);
+    memcpy(plain.field, proved.field, 4 * part_length(n));
     for (size_t i = 0; i < 4000000 / n; i++) {
         once(plume_step, &proved, wind, nx, ny);
         once(plain_step, &plain, wind, nx, ny);
     }
-    int same = memcmp(proved.field, plain.field, 40 * n) == 0 && memcmp(proved.report, plain.report, 8 * n) == 0 &&
+    int same = memcmp(proved.field, plain.field, 4 * part_length(n)) == 0 && memcmp(proved.report, plain.report, 8 * n) == 0 &&
                proved.clipped == plain.clipped;
     printf("%zux%zu: proved %.1f ns, plain %.1f ns an element, ratio %.2f%s\n", nx, ny, proved.best / n, plain.best / n,
            proved.best / plain.best, same ? "" : ", DIFFERENT RESULTS");

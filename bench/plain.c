@@ -200,7 +200,7 @@ static uint64_t finish(uint32_t *part, const int64_t *work, const int32_t *repor
     return clipped;
 }
 
-/* 6 where a remainder or the total is out of range. */
+/* 6 where a remainder or the sum is out of range, or the sum isn't the stored total. */
 static int sound(const uint32_t *part, size_t n)
 {
     uint64_t sum = 0;
@@ -216,7 +216,7 @@ static int sound(const uint32_t *part, size_t n)
         if (sum > LIMIT)
             return 0;
     }
-    return 1;
+    return sum == part[10 * n];
 }
 
 int64_t plain_step(uint32_t *field, size_t field_count, const int16_t *wind, size_t wind_count,
@@ -226,14 +226,15 @@ int64_t plain_step(uint32_t *field, size_t field_count, const int16_t *wind, siz
     if (nx < 1 || nx > 64 || ny < 1 || ny > 64 || smokes < 1 || smokes > 8)
         return -2;
     size_t n = nx * ny;
-    if (field_count < smokes * n * 10 || wind_count < 2 * n || report_count < 2 * n || work_count < 64 * n)
+    size_t length = 10 * n + 1;
+    if (field_count < smokes * length || wind_count < 2 * n || report_count < 2 * n || work_count < 64 * n)
         return -4;
     for (size_t f = 0; f < 2 * n; f++)
         if (wind[f] < -1024 || wind[f] > 1024)
             return -5;
     if (smoke >= smokes)
         return -7;
-    uint32_t *part = field + smoke * n * 10;
+    uint32_t *part = field + smoke * length;
     if (!sound(part, n))
         return -6;
     start(work, part, n);

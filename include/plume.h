@@ -5,9 +5,11 @@
  * Buffers. Each is a pointer and then the count of its numbers. Pointers are aligned for their type and not null, also where the
  * count is 0; buffers of one call do not overlap. A buffer may be longer than needed, and what is beyond stays as
  * it was; the file of plume_read and the records of plume_import have just their bytes.
- *   field    10 * nx * ny * smokes. Smoke by smoke, then j, then i: nine values (b outer, a inner, from south-west to
+ *   field    (10 * nx * ny + 1) * smokes. Smoke by smoke, then j, then i: nine values (b outer, a inner, from south-west to
  *            north-east) and a remainder, 0 to 35. An element holds the sum of its values times their weights
- *            1 4 1, 4 16 4, 1 4 1, plus the remainder; a smoke's total is the sum of that, at most 100,000,000.
+ *            1 4 1, 4 16 4, 1 4 1, plus the remainder; a smoke's total is the sum of that, at most 100,000,000, and is stored
+ *            after its last element. Who writes elements himself must write the total, too; a field that is read from a file
+ *            with the mark "PLUM" has it.
  *   wind     2 * nx * ny. All east faces (j outer, i inner), then all north faces, in 1/4096 element per step, -1024 to 1024,
  *            positive to the east or north. An element owns its east and its north face.
  *   report   2 * nx * ny, in the wind's order: how much smoke went over each face, positive to the east or north.
@@ -17,19 +19,23 @@
  *            an east and a north component, kind 2 an east component (the north wind becomes 0).
  *   page     the bytes of a printed page, 74 * (((nx + 6) / 7) * (ny + 1) + 1) of them, no terminating 0: lines of 73 characters
  *            and a newline.
- *   file     the bytes of a field file; 4 * nx * ny + 40 * nx * ny * smokes + 4 * (smokes + 1) + 12 of them.
+ *   file     the bytes of a field file with the mark "PLU2"; 4 * nx * ny + (40 * nx * ny + 4) * smokes + 4 * (smokes + 1) + 12
+ *            of them. plume_read also takes files with the mark "PLUM", in which no totals are stored: 4 bytes less for each smoke.
  *
  * Answers. A uint8_t is 0 where the call was accepted, else the refusal's number. An int64_t is the number that the call
  * answers, or the refusal's number negated. A call that is refused has written nothing.
- *    1 no field file: fewer than 12 bytes, wrong mark, or fourth byte of the tail not 0
+ *    1 no field file: fewer than 12 bytes, a mark that is neither "PLU2" nor "PLUM", or fourth byte of the tail not 0
  *    2 shape outside its ranges
- *    3 the file's offsets or length differ from what its shape gives
+ *    3 the file's offsets or length differ from what its shape and mark give
  *    4 a buffer is shorter than needed (a short file of plume_read is 1 or 3, short records are 11)
  *    5 a wind number outside -1024 to 1024
- *    6 a remainder above 35 or a total above 100,000,000: of the named smoke; in plume_read and plume_write of any
+ *    6 in plume_step and plume_map, of the named smoke, and in plume_read and plume_write, of any: a remainder above 35, a sum
+ *      above 100,000,000, or a stored total that is not the sum; in plume_emission, plume_withdrawal and plume_mass: a stored
+ *      total above 100,000,000, or, of the named element, a remainder above 35 or a mass above the stored total; in
+ *      plume_total: a stored total above 100,000,000
  *    7 no such smoke
  *    8 no such element or face
- *    9 the total would pass 100,000,000
+ *    9 the total would pass 100,000,000: in plume_emission the stored one
  *   10 withdrawal of more than the element holds
  *   11 a wind record of an unknown kind, a missing byte, or bytes after the last record
  *   12 a number of a wind record that is not finite
@@ -64,23 +70,25 @@ uint8_t plume_import(int16_t *wind, size_t wind_count, const uint8_t *records, s
                      size_t nx, size_t ny, size_t smokes);
 
 /* Replaces a smoke by nodal values: `numbers` has nine for each element, 9 * nx * ny, elements and nodes in the field's order. Its
- * remainders become 0; what it held before is not looked at. Refusals 2 4 7 9. */
+ * remainders become 0, and its stored total the sum of what its elements hold then; what it held before is not looked at.
+ * Refusals 2 4 7 9. */
 uint8_t plume_load(uint32_t *field, size_t field_count, const uint32_t *numbers, size_t numbers_count,
                    size_t nx, size_t ny, size_t smokes, size_t smoke);
 
-/* Adds q to what element (i, j) of a smoke holds: its values rise evenly, its remainder takes the rest. Answers the clipped mass, as
- * plume_step does; here it is always 0. Refusals 2 4 6 7 8 9, negated. */
+/* Adds q to what element (i, j) of a smoke holds, and to the stored total: its values rise evenly, its remainder takes the rest. Looks at
+ * that element and the stored total only, and its time does not grow with the grid; so it is with withdrawal, mass and total. Answers
+ * the clipped mass, as plume_step does; here it is always 0. Refusals 2 4 6 7 8 9, negated. */
 int64_t plume_emission(uint32_t *field, size_t field_count, size_t nx, size_t ny, size_t smokes,
                        size_t smoke, size_t i, size_t j, uint64_t q);
 
-/* Takes q off what element (i, j) of a smoke holds: off its remainder, or where that is too little by scaling its values down. Answers
- * the clipped mass, which is always 0 here. Refusals 2 4 6 7 8 10, negated. */
+/* Takes q off what element (i, j) of a smoke holds, and off the stored total: off its remainder, or where that is too little by scaling
+ * its values down. Answers the clipped mass, which is always 0 here. Refusals 2 4 6 7 8 10, negated. */
 int64_t plume_withdrawal(uint32_t *field, size_t field_count, size_t nx, size_t ny, size_t smokes,
                          size_t smoke, size_t i, size_t j, uint64_t q);
 
-/* One step of one smoke with the wind: writes that smoke's elements and the whole report. Afterwards work has any content. Answers the
- * clipped mass, 0 or more and below 2^53: how much negative smoke the truncation removed, over all elements. It may be above the total.
- * Refusals 2 4 5 6 7, negated. */
+/* One step of one smoke with the wind: writes that smoke's elements and the whole report; the stored total stays. Afterwards work has any
+ * content. Answers the clipped mass, 0 or more and below 2^53: how much negative smoke the truncation removed, over all elements. It may be
+ * above the total. Refusals 2 4 5 6 7, negated. */
 int64_t plume_step(uint32_t *field, size_t field_count, const int16_t *wind, size_t wind_count,
                    int32_t *report, size_t report_count, int64_t *work, size_t work_count,
                    size_t nx, size_t ny, size_t smokes, size_t smoke);
@@ -89,7 +97,7 @@ int64_t plume_step(uint32_t *field, size_t field_count, const int16_t *wind, siz
 int64_t plume_mass(const uint32_t *field, size_t field_count, size_t nx, size_t ny, size_t smokes,
                    size_t smoke, size_t i, size_t j);
 
-/* A smoke's total. Refusals 2 4 6 7, negated. */
+/* A smoke's total, as it is stored. Refusals 2 4 6 7, negated. */
 int64_t plume_total(const uint32_t *field, size_t field_count, size_t nx, size_t ny, size_t smokes,
                     size_t smoke);
 
@@ -100,12 +108,13 @@ int64_t plume_total(const uint32_t *field, size_t field_count, size_t nx, size_t
 int64_t plume_map(uint8_t *page, size_t page_count, const uint32_t *field, size_t field_count,
                   size_t nx, size_t ny, size_t smokes, size_t smoke);
 
-/* Reads a field file, file_count bytes and no more, into field and wind. Answers the shape as nx + 256 * ny + 65536 * smokes.
- * Refusals 1 2 3 4 5 6, negated. */
+/* Reads a field file, file_count bytes and no more, into field and wind; where its mark is "PLUM", the totals are worked out. Answers the
+ * shape as nx + 256 * ny + 65536 * smokes. Refusals 1 2 3 4 5 6, negated. */
 int64_t plume_read(uint32_t *field, size_t field_count, int16_t *wind, size_t wind_count,
                    const uint8_t *file, size_t file_count);
 
-/* Writes a field file. Answers its length in bytes. Refusals 2 4 5 6, negated. */
+/* Writes a field file with the mark "PLU2": where the field was read from one with the mark "PLUM", 4 bytes more for each smoke than that
+ * file had. Answers its length in bytes. Refusals 2 4 5 6, negated. */
 int64_t plume_write(uint8_t *file, size_t file_count, const uint32_t *field, size_t field_count,
                     const int16_t *wind, size_t wind_count, size_t nx, size_t ny, size_t smokes);
 

@@ -1,4 +1,4 @@
-//! Random winds and random numbers of one smoke, within the ranges of document 01.
+//! Random winds and random parts of one smoke, within the ranges of documents 01 and 02.
 
 use reference::checks::{element_mass, node_weight};
 use reference::rng::Rng;
@@ -30,35 +30,47 @@ fn even_limit(shape: Shape) -> u64 {
     (LIMIT / shape.elements() as u64 - 35) / 36
 }
 
-/// One smoke's numbers: empty, nearly empty and fuller elements beside each other, old remainders, single full nodes; once in
-/// six the total is exactly the limit.
+/// One smoke's part: its elements, then its stored total (document 02, 2026-06).
 pub fn smoke(rng: &mut Rng, shape: Shape) -> Vec<u32> {
+    with_total(elements(rng, shape))
+}
+
+/// Elements of ten numbers, and their sum behind them.
+pub fn with_total(mut elements: Vec<u32>) -> Vec<u32> {
+    elements.push(0);
+    store_sum(&mut elements);
+    elements
+}
+
+/// One smoke's elements alone: empty, nearly empty and fuller ones beside each other, old remainders, single full nodes; once in
+/// six the sum is exactly the limit.
+pub fn elements(rng: &mut Rng, shape: Shape) -> Vec<u32> {
     if rng.once_in(8) {
         return one_node(rng, shape);
     }
     let most = even_limit(shape);
     let full = rng.pick(&[1, 3, 40, 500, most]).min(most);
-    let mut part = Vec::with_capacity(shape.smoke_len());
+    let mut numbers = Vec::with_capacity(shape.smoke_len());
     for _ in 0..shape.elements() {
-        part.extend(element(rng, full));
+        numbers.extend(element(rng, full));
     }
-    let mut left = LIMIT - total(&part);
+    let mut left = LIMIT - sum(&numbers);
     for _ in 0..rng.below(4) {
         let at = PER_ELEMENT * rng.index(shape.elements()) + rng.index(NODES);
         let weight = node_weight(at % PER_ELEMENT) as u64;
         let spike = rng.below(left / weight / 2 + 1);
-        part[at] += spike as u32;
+        numbers[at] += spike as u32;
         left -= weight * spike;
     }
     if rng.once_in(6) {
-        fill_up(rng, &mut part, left);
+        fill_up(rng, &mut numbers, left);
     }
-    part
+    numbers
 }
 
 /// All that a smoke may hold at one node: with strong winds the numbers within a step are as large as they can be.
 fn one_node(rng: &mut Rng, shape: Shape) -> Vec<u32> {
-    let mut part = vec![0; shape.smoke_len()];
+    let mut part = vec![0; shape.elements_len()];
     let start = PER_ELEMENT * rng.index(shape.elements());
     let node = rng.index(NODES);
     let weight = node_weight(node) as u64;
@@ -88,15 +100,21 @@ fn element(rng: &mut Rng, full: u64) -> [u32; PER_ELEMENT] {
 }
 
 /// Adds `more` at a corner, whose weight is 1.
-pub fn fill_up(rng: &mut Rng, part: &mut [u32], more: u64) {
+pub fn fill_up(rng: &mut Rng, elements: &mut [u32], more: u64) {
     let corner = rng.pick(&[0, 2, 6, 8]);
-    let at = PER_ELEMENT * rng.index(part.len() / PER_ELEMENT) + corner;
-    part[at] += more as u32;
+    let at = PER_ELEMENT * rng.index(elements.len() / PER_ELEMENT) + corner;
+    elements[at] += more as u32;
 }
 
 /// The sum of M over elements of ten numbers.
-pub fn total(part: &[u32]) -> u64 {
-    part.chunks_exact(PER_ELEMENT).map(element_mass).sum()
+pub fn sum(elements: &[u32]) -> u64 {
+    elements.chunks_exact(PER_ELEMENT).map(element_mass).sum()
+}
+
+/// A part's stored total becomes its sum, or the most that a u32 holds.
+pub fn store_sum(part: &mut [u32]) {
+    let (total, elements) = part.split_last_mut().expect("a part ends with its total");
+    *total = u32::try_from(sum(elements)).unwrap_or(u32::MAX);
 }
 
 /// A shape, mostly small; once in `rare` any, up to 64 by 64 with eight smokes.

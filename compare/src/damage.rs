@@ -1,23 +1,23 @@
 //! Damage to a sound file: each field of the tail, each offset, the length, and the content.
 
-use crate::content;
 use crate::files;
+use crate::unsound::spoil_part;
 use reference::file::TAIL;
 use reference::rng::Rng;
-use reference::shape::{LIMIT, NODES, PER_ELEMENT};
-use reference::Shape;
+use reference::{Mark, Shape};
 
-/// Damages a sound file of the shape in one way, once in eight in two.
-pub fn damage(rng: &mut Rng, file: &mut Vec<u8>, shape: Shape) {
+/// Damages a sound file of the mark and shape in one way, once in eight in two.
+pub fn damage(rng: &mut Rng, file: &mut Vec<u8>, mark: Mark, shape: Shape) {
     // What a place means is only known while the layout is right: content first.
     if rng.once_in(8) {
-        content_damage(rng, file, shape);
+        content_damage(rng, file, mark, shape);
     }
-    match rng.below(10) {
-        0 | 1 => content_damage(rng, file, shape),
-        2..=4 => tail_damage(rng, file),
-        5 | 6 => table_damage(rng, file, shape),
-        7 => flips(rng, file),
+    match rng.below(18) {
+        0..=5 => content_damage(rng, file, mark, shape),
+        6..=8 => tail_damage(rng, file),
+        9 | 10 => mark_damage(rng, file, mark),
+        11 | 12 => table_damage(rng, file, mark, shape),
+        13 => flips(rng, file),
         _ => length_damage(rng, file),
     }
 }
@@ -26,44 +26,22 @@ fn put(file: &mut [u8], at: usize, bytes: &[u8]) {
     file[at..at + bytes.len()].copy_from_slice(bytes);
 }
 
-fn number(file: &[u8], at: usize) -> u32 {
-    u32::from_le_bytes([file[at], file[at + 1], file[at + 2], file[at + 3]])
-}
-
-fn content_damage(rng: &mut Rng, file: &mut [u8], shape: Shape) {
-    let element = rng.index(shape.elements() * shape.k);
-    let start = shape.section_offset(0) + 4 * PER_ELEMENT * element;
-    match rng.below(6) {
-        0 | 1 => {
-            let bad: i16 = rng.pick(&[1025, -1025, i16::MAX, i16::MIN, 1024, -1024]);
-            put(file, 2 * rng.index(shape.wind_len()), &bad.to_le_bytes());
-        }
-        2 | 3 => {
-            let bad: u32 = rng.pick(&[36, 36, 37, 255, 256, 1 << 16, u32::MAX, 35]);
-            put(file, start + 4 * NODES, &bad.to_le_bytes());
-        }
-        4 => {
-            let bad: u32 = rng.pick(&[u32::MAX, 1 << 28, 1 << 31, LIMIT as u32 + 1]);
-            put(file, start + 4 * rng.index(NODES), &bad.to_le_bytes());
-        }
-        _ => near_limit(rng, file, shape),
+/// A wind out of range, or a fault in a smoke's part.
+pub fn content_damage(rng: &mut Rng, file: &mut [u8], mark: Mark, shape: Shape) {
+    if rng.once_in(4) {
+        let bad: i16 = rng.pick(&[1025, -1025, i16::MAX, i16::MIN, 1024, -1024]);
+        return put(file, 2 * rng.index(shape.wind_len()), &bad.to_le_bytes());
     }
-}
-
-/// Brings a smoke's total to the limit, or to one above it.
-fn near_limit(rng: &mut Rng, file: &mut [u8], shape: Shape) {
-    let start = shape.section_offset(rng.index(shape.k));
-    let number_at = |n: usize| number(file, start + 4 * n);
-    let part: Vec<u32> = (0..shape.smoke_len()).map(number_at).collect();
-    if let Some(left) = LIMIT.checked_sub(content::total(&part)) {
-        let first = part[0] + left as u32 + rng.index(2) as u32;
-        put(file, start, &first.to_le_bytes());
-    }
+    let (smoke, element) = (rng.index(shape.k), rng.index(shape.elements()));
+    let other = files::part(file, mark, shape, rng.index(shape.k));
+    let mut part = files::part(file, mark, shape, smoke);
+    spoil_part(rng, &mut part, element, other[shape.elements_len()]);
+    files::lay_part(file, mark, shape, smoke, &part);
 }
 
 fn tail_damage(rng: &mut Rng, file: &mut [u8]) {
     let tail = file.len() - TAIL;
-    match rng.below(7) {
+    match rng.below(6) {
         0..=2 => {
             let at = rng.index(3);
             let beyond = if at == 2 { 9 } else { 65 };
@@ -72,38 +50,57 @@ fn tail_damage(rng: &mut Rng, file: &mut [u8]) {
         3 => file[tail + rng.index(3)] = 1 + rng.index(8) as u8,
         // the same length, and still sound, where only the two sides change places
         4 => file.swap(tail, tail + 1),
-        5 => file[tail + 3] = rng.pick(&[1, 2, 128, 255]),
-        _ => match rng.below(3) {
-            0 => file[tail + 8 + rng.index(4)] ^= 1 << rng.below(8),
-            1 => put(file, tail + 8, &rng.pick(&[*b"plum", *b"MULP", *b"PLU2"])),
-            _ => file.swap(tail + 8, tail + 9 + rng.index(3)),
-        },
+        _ => file[tail + 3] = rng.pick(&[1, 2, 128, 255]),
+    }
+}
+
+/// The other mark, whose layout the file hasn't, or one near to both.
+fn mark_damage(rng: &mut Rng, file: &mut [u8], mark: Mark) {
+    let tail = file.len() - TAIL;
+    let bytes = &mut file[tail + 8..];
+    let near = [
+        *b"PLU1", *b"PLU3", *b"PLU\0", *b"PLUm", *b"PLM2", *b"2ULP", *b"MULP", *b"plum", *b"plu2",
+    ];
+    match rng.below(5) {
+        0 => bytes[rng.index(4)] ^= 1 << rng.below(8),
+        1 => bytes.swap(0, 1 + rng.index(3)),
+        2 | 3 => bytes.copy_from_slice(&rng.pick(&near)),
+        _ => bytes.copy_from_slice(other(mark).bytes()),
+    }
+}
+
+fn other(mark: Mark) -> Mark {
+    match mark {
+        Mark::Plum => Mark::Plu2,
+        Mark::Plu2 => Mark::Plum,
     }
 }
 
 /// An offset of the table, or the table's own in the tail.
-fn table_damage(rng: &mut Rng, file: &mut [u8], shape: Shape) {
+fn table_damage(rng: &mut Rng, file: &mut [u8], mark: Mark, shape: Shape) {
     let tail = file.len() - TAIL;
-    if rng.once_in(2) {
-        return wrong_offset(rng, file, tail + 4, shape.table_offset());
-    }
+    let table = shape.table_offset(mark);
     let entry = rng.index(shape.k + 1);
-    let right = match entry {
-        0 => 0,
-        _ => shape.section_offset(entry - 1),
+    let (at, smoke) = match (rng.once_in(2), entry) {
+        (true, _) => (tail + 4, shape.k),
+        (false, 0) => return wrong_offset(rng, file, table, [0, 0]),
+        (false, _) => (table + 4 * entry, entry - 1),
     };
-    wrong_offset(rng, file, shape.table_offset() + 4 * entry, right);
+    let offsets = [mark, other(mark)].map(|mark| shape.section_offset(mark, smoke));
+    wrong_offset(rng, file, at, offsets);
 }
 
-fn wrong_offset(rng: &mut Rng, file: &mut [u8], at: usize, right: usize) {
+/// Lays another offset than the right one; the other mark has its own.
+fn wrong_offset(rng: &mut Rng, file: &mut [u8], at: usize, [right, others]: [usize; 2]) {
     let right = right as u32;
-    let wrong = match rng.below(7) {
+    let wrong = match rng.below(8) {
         // some the same in the lower bytes
         0 | 1 => right.wrapping_add(1 << rng.pick(&[0, 8, 16, 24])),
         2 => right.wrapping_sub(4),
         3 => right.swap_bytes(),
         4 => rng.pick(&[0, u32::MAX, 1 << 31]),
         5 => file.len() as u32,
+        6 => others as u32,
         _ => right ^ 1 << rng.below(32),
     };
     put(file, at, &wrong.to_le_bytes());

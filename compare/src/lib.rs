@@ -1,4 +1,4 @@
-//! What the binaries share: random sound fields, and field files sound and damaged.
+//! What the binaries share: random sound fields, faults in a smoke's numbers, and field files sound and damaged.
 //!
 //! - `calls`: pages at the edges and random lists of calls on the library and on the reference, compared after each call.
 //! - `doubles`: any 64 bits as a number of a wind record, through the library and by the reference.
@@ -8,3 +8,4 @@
 pub mod content;
 pub mod damage;
 pub mod files;
+pub mod unsound;

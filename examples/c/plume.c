@@ -1,5 +1,5 @@
-/* Uses the library from C: a fresh field, a wind, an emission, steps, totals, a map for the printer, a field file written and read back,
- * and a wind imported from records. Each answer is checked; the program ends with 1 at the first that is not as it should be. */
+/* Uses the library from C: a fresh field, a wind, an emission, steps, totals, a map for the printer, a field file written and read back, one
+ * with the old mark, and a wind imported from records. Each answer is checked; the program ends with 1 at the first that is not as it should be. */
 #include <inttypes.h>
 #include <stdio.h>
 #include <stdlib.h>
@@ -12,7 +12,7 @@ enum {
     NY = 4,
     SMOKES = 2,
     ELEMENTS = NX * NY,
-    FIELD = 10 * ELEMENTS * SMOKES,
+    FIELD = (10 * ELEMENTS + 1) * SMOKES,
     FACES = 2 * ELEMENTS,
     WORK = 64 * ELEMENTS,
     RECORD = 17, /* bytes of the longest kind of record */
@@ -86,6 +86,41 @@ static void written_and_read(void)
     expect("read of a file cut short", plume_read(field, FIELD, wind, FACES, file, (size_t)length - 1), -1);
 }
 
+static uint8_t *put_u32(uint8_t *to, uint32_t number)
+{
+    for (int i = 0; i < 4; i++)
+        to[i] = (uint8_t)(number >> 8 * i);
+    return to + 4;
+}
+
+/* Makes the file that was written one with the old mark, "PLUM", whose sections have no totals. Gives its length in bytes. */
+static size_t without_totals(void)
+{
+    enum { SECTION = 40 * ELEMENTS };
+    uint8_t *end = file + 2 * FACES;
+    for (size_t s = 0; s < SMOKES; s++, end += SECTION)
+        memmove(end, file + 2 * FACES + s * (SECTION + 4), SECTION);
+    uint32_t table = (uint32_t)(end - file);
+    end = put_u32(end, 0);
+    for (uint32_t s = 0; s < SMOKES; s++)
+        end = put_u32(end, 2 * FACES + s * SECTION);
+    end = put_u32(end, NX + 256 * NY + 65536 * SMOKES);
+    end = put_u32(end, table);
+    memcpy(end, "PLUM", 4);
+    return (size_t)(end + 4 - file);
+}
+
+/* Its totals are worked out when it is read. */
+static void read_with_old_mark(void)
+{
+    size_t length = without_totals();
+    memset(field_again, 255, sizeof field_again);
+    int64_t shape = plume_read(field_again, FIELD, wind_again, FACES, file, length);
+    expect("read of the old mark", shape, NX + 256 * NY + 65536 * SMOKES);
+    expect("field read from it", memcmp(field, field_again, sizeof field), 0);
+    printf("file with the old mark: %zu bytes, read as the same field\n", length);
+}
+
 /* Puts a number of a record: eight bytes, the lowest first on any machine. Gives how many. */
 static size_t put_number(uint8_t *to, double number)
 {
@@ -134,6 +169,7 @@ int main(void)
         step(number);
     mapped();
     written_and_read();
+    read_with_old_mark();
     imported();
     expect("withdrawal of too much", plume_withdrawal(field, FIELD, NX, NY, SMOKES, 0, 1, 2, EMITTED + 1), -10);
     expect("withdrawal", plume_withdrawal(field, FIELD, NX, NY, SMOKES, 0, 1, 2, (uint64_t)mass(1, 2)), 0);

@@ -2,8 +2,8 @@
 //! withdrawal and the readings. Nothing is written before the last check.
 
 use crate::checks::{
-    element_exists, element_mass, long_enough, smoke_exists, smoke_part, smoke_sound, smoke_total,
-    weighted_numbers, wind_in_range, OVER_LIMIT, TOO_MUCH,
+    element_exists, element_mass, element_sound, long_enough, smoke_exists, stored_sound,
+    stored_total, weighted_numbers, wind_in_range, OVER_LIMIT, TOO_MUCH,
 };
 use crate::closing::{close, close_unlevelled, Closed, Nodes};
 use crate::shape::{Shape, LIMIT, NODES, PER_ELEMENT};
@@ -15,7 +15,8 @@ pub enum Way {
     North,
 }
 
-/// Checks 2 4. "Fresh: writes zeros to field and wind."
+/// Checks 2 4. "Fresh: writes zeros to field and wind." Every stored total is
+/// among the field's numbers (document 02, 2026-06): "Fresh sets it to 0".
 pub fn fresh(
     field: &mut [u32],
     wind: &mut [i16],
@@ -59,7 +60,9 @@ pub fn wind(
 }
 
 /// Checks 2 4 7 9. "Load doesn't look at the old numbers": every element of
-/// the smoke is replaced, so the new total is that of the numbers alone.
+/// the smoke is replaced, so the new total is that of the numbers alone. The
+/// stored one isn't looked at either; it becomes "the new sum" (request
+/// 2026-06).
 pub fn load(
     field: &mut [u32],
     numbers: &[u32],
@@ -78,7 +81,7 @@ pub fn load(
         return Err(OVER_LIMIT);
     }
     let start = shape.place(smoke, 0, 0);
-    let part = &mut field[start..start + shape.smoke_len()];
+    let part = &mut field[start..start + shape.elements_len()];
     for (element, nodes) in part
         .chunks_exact_mut(PER_ELEMENT)
         .zip(numbers.chunks_exact(NODES))
@@ -86,7 +89,14 @@ pub fn load(
         element[..NODES].copy_from_slice(nodes);
         element[NODES] = 0;
     }
+    store_total(field, shape, smoke, new_total);
     Ok(())
+}
+
+/// Writes the smoke's stored total (request 2026-06).
+fn store_total(field: &mut [u32], shape: Shape, smoke: usize, total: u64) {
+    let total = u32::try_from(total).expect("no accepted call brings it above the limit");
+    field[shape.total_place(smoke)] = total;
 }
 
 /// An element's nine values as ψ.
@@ -103,7 +113,7 @@ fn found(
 ) -> Result<(Shape, usize), u8> {
     let shape = Shape::checked(nx, ny, k)?;
     long_enough(field, shape.field_len())?;
-    smoke_sound(field, shape, smoke)?;
+    element_sound(field, shape, smoke, (i, j))?;
     smoke_exists(shape, smoke)?;
     element_exists(shape, i, j)?;
     Ok((shape, shape.place(smoke, i, j)))
@@ -116,8 +126,8 @@ fn passed_on(element: &mut [u32], closed: &Closed) -> u64 {
     closed.clipped
 }
 
-/// Checks 2 4 6 7 8 9. "closing with ψ = φ, T = M + q". Answers the clipped
-/// mass.
+/// Checks 2 4 6 7 8 9, the last by the stored total (request 2026-06):
+/// "emission adds q". "closing with ψ = φ, T = M + q". Answers the clipped mass.
 #[allow(clippy::too_many_arguments)]
 pub fn emission(
     field: &mut [u32],
@@ -130,18 +140,21 @@ pub fn emission(
     q: u64,
 ) -> Result<u64, u8> {
     let (shape, place) = found(field, (nx, ny, k), smoke, (i, j))?;
-    let total = smoke_total(field, shape, smoke);
-    if u128::from(total) + u128::from(q) > u128::from(LIMIT) {
+    let total = stored_total(field, shape, smoke);
+    // 6 has passed, so the stored total is at most the limit.
+    if q > LIMIT - total {
         return Err(OVER_LIMIT);
     }
+    store_total(field, shape, smoke, total + q);
     let element = &mut field[place..place + PER_ELEMENT];
     let target = i128::from(element_mass(element)) + i128::from(q);
     let closed = close(&signed_values(element), target);
     Ok(passed_on(element, &closed))
 }
 
-/// Checks 2 4 6 7 8 10. "T = M − q, closing without levelling". Answers the
-/// clipped mass.
+/// Checks 2 4 6 7 8 10. "T = M − q, closing without levelling", and
+/// "withdrawal takes q off" the stored total (request 2026-06), which isn't
+/// below M. Answers the clipped mass.
 #[allow(clippy::too_many_arguments)]
 pub fn withdrawal(
     field: &mut [u32],
@@ -153,12 +166,14 @@ pub fn withdrawal(
     j: usize,
     q: u64,
 ) -> Result<u64, u8> {
-    let (_, place) = found(field, (nx, ny, k), smoke, (i, j))?;
-    let element = &mut field[place..place + PER_ELEMENT];
-    let held = element_mass(element);
+    let (shape, place) = found(field, (nx, ny, k), smoke, (i, j))?;
+    let held = element_mass(&field[place..place + PER_ELEMENT]);
     if q > held {
         return Err(TOO_MUCH);
     }
+    let total = stored_total(field, shape, smoke);
+    store_total(field, shape, smoke, total - q);
+    let element = &mut field[place..place + PER_ELEMENT];
     let target = i128::from(held - q);
     let closed = close_unlevelled(&signed_values(element), target);
     Ok(passed_on(element, &closed))
@@ -178,12 +193,11 @@ pub fn mass(
     Ok(element_mass(&field[place..place + PER_ELEMENT]))
 }
 
-/// Checks 2 4 6 7. A smoke's total.
+/// Checks 2 4 6 7. A smoke's total, which is the stored one (request 2026-06).
 pub fn total(field: &[u32], nx: usize, ny: usize, k: usize, smoke: usize) -> Result<u64, u8> {
     let shape = Shape::checked(nx, ny, k)?;
     long_enough(field, shape.field_len())?;
-    smoke_sound(field, shape, smoke)?;
+    stored_sound(field, shape, smoke)?;
     smoke_exists(shape, smoke)?;
-    let part = smoke_part(field, shape, smoke);
-    Ok(part.chunks_exact(PER_ELEMENT).map(element_mass).sum())
+    Ok(stored_total(field, shape, smoke))
 }

@@ -57,28 +57,75 @@ pub fn element_mass(element: &[u32]) -> u64 {
     weighted_numbers(&element[..NODES]) + u64::from(element[NODES])
 }
 
-/// The smoke's elements, ten numbers each; the smoke must exist.
+/// The smoke's numbers, its elements and then its stored total (request
+/// 2026-06); the smoke must exist.
 pub fn smoke_part(field: &[u32], shape: Shape, smoke: usize) -> &[u32] {
     let start = shape.place(smoke, 0, 0);
     &field[start..start + shape.smoke_len()]
 }
 
-pub fn smoke_total(field: &[u32], shape: Shape, smoke: usize) -> u64 {
-    let part = smoke_part(field, shape, smoke);
-    part.chunks_exact(PER_ELEMENT).map(element_mass).sum()
+/// The smoke's elements alone, ten numbers each.
+pub fn smoke_elements(field: &[u32], shape: Shape, smoke: usize) -> &[u32] {
+    &smoke_part(field, shape, smoke)[..shape.elements_len()]
 }
 
-/// Refusal 6 for one smoke. "A smoke number not below K has no numbers to
-/// search, so it passes here and meets 7."
+/// The sum of M over the smoke's elements.
+pub fn smoke_total(field: &[u32], shape: Shape, smoke: usize) -> u64 {
+    let elements = smoke_elements(field, shape, smoke);
+    elements.chunks_exact(PER_ELEMENT).map(element_mass).sum()
+}
+
+/// Document 02, 2026-06: the "one u32 more after its last element, holding its
+/// total". Only in a sound smoke is it the sum.
+pub fn stored_total(field: &[u32], shape: Shape, smoke: usize) -> u64 {
+    u64::from(field[shape.total_place(smoke)])
+}
+
+/// Refusal 6 for one whole smoke. Document 02, 2026-06: "Step, the printed map,
+/// file reading and file writing still sum, and give 6 where sum and stored
+/// total differ." "A smoke number not below K has no numbers to search, so it
+/// passes here and meets 7."
 pub fn smoke_sound(field: &[u32], shape: Shape, smoke: usize) -> Result<(), u8> {
     if smoke >= shape.k {
         return Ok(());
     }
-    let part = smoke_part(field, shape, smoke);
-    let large = part
+    let large = smoke_elements(field, shape, smoke)
         .chunks_exact(PER_ELEMENT)
         .any(|element| element[NODES] > LARGEST_REMAINDER);
-    if large || smoke_total(field, shape, smoke) > LIMIT {
+    let sum = smoke_total(field, shape, smoke);
+    if large || sum > LIMIT || sum != stored_total(field, shape, smoke) {
+        return Err(UNSOUND);
+    }
+    Ok(())
+}
+
+/// Refusal 6 of a smoke's total: "a stored total above 100,000,000" (document
+/// 02, 2026-06). The elements are not looked at.
+pub fn stored_sound(field: &[u32], shape: Shape, smoke: usize) -> Result<(), u8> {
+    if smoke < shape.k && stored_total(field, shape, smoke) > LIMIT {
+        return Err(UNSOUND);
+    }
+    Ok(())
+}
+
+/// Refusal 6 of emission, withdrawal and an element's M. Document 02, 2026-06:
+/// they "look at the named element and the stored total only. They give 6 for
+/// that element's remainder above 35, a stored total above 100,000,000, or an
+/// element holding more than it; one off the grid has no numbers."
+pub fn element_sound(
+    field: &[u32],
+    shape: Shape,
+    smoke: usize,
+    (i, j): (usize, usize),
+) -> Result<(), u8> {
+    stored_sound(field, shape, smoke)?;
+    if smoke >= shape.k || !shape.has_element(i, j) {
+        return Ok(());
+    }
+    let place = shape.place(smoke, i, j);
+    let element = &field[place..place + PER_ELEMENT];
+    let held = element_mass(element);
+    if element[NODES] > LARGEST_REMAINDER || held > stored_total(field, shape, smoke) {
         return Err(UNSOUND);
     }
     Ok(())

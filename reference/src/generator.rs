@@ -1,22 +1,33 @@
 //! Random scripts of calls. The generator runs its own list while it makes
-//! it, so that it can ask for exactly M, for M + 1, or for the room left.
+//! it, so that it can ask for exactly M, for M + 1, or for the room left. The
+//! field stays sound; unsound ones are made in `unsound_generator`.
 
 use crate::calls::Way;
-use crate::checks::{node_weight, weighted_numbers};
+use crate::checks::{element_mass, node_weight, stored_total, weighted_numbers};
 use crate::import_generator::records;
-use crate::lists::{Answer, Call, State};
+use crate::lists::{Call, State};
 use crate::rng::Rng;
-use crate::shape::{Shape, LIMIT, NODES};
+use crate::shape::{Shape, LIMIT, NODES, PER_ELEMENT};
 
-struct Maker {
-    rng: Rng,
-    shape: Shape,
-    state: State,
+pub(crate) struct Maker {
+    pub rng: Rng,
+    pub shape: Shape,
+    pub state: State,
 }
 
-/// The script's text. The first third sets winds and loads smokes, so that
-/// even a short list has something to move.
+/// The script's text.
 pub fn script(seed: u64, nx: usize, ny: usize, k: usize, count: usize) -> Result<String, u8> {
+    made(Maker::any, seed, (nx, ny, k), count)
+}
+
+/// A script of which each call is made by `next`. The first third sets winds
+/// and loads smokes, so that even a short list has something to move.
+pub(crate) fn made(
+    next: fn(&mut Maker) -> Call,
+    seed: u64,
+    (nx, ny, k): (usize, usize, usize),
+    count: usize,
+) -> Result<String, u8> {
     let shape = Shape::checked(nx, ny, k)?;
     let mut maker = Maker {
         rng: Rng::new(seed),
@@ -32,7 +43,7 @@ pub fn script(seed: u64, nx: usize, ny: usize, k: usize, count: usize) -> Result
         } else if at < winds + loads {
             Call::Load(at - winds, maker.numbers())
         } else {
-            maker.any()
+            next(&mut maker)
         };
         maker.state.run(&call);
         text.push_str(&format!("{call}\n"));
@@ -41,7 +52,7 @@ pub fn script(seed: u64, nx: usize, ny: usize, k: usize, count: usize) -> Result
 }
 
 impl Maker {
-    fn any(&mut self) -> Call {
+    pub fn any(&mut self) -> Call {
         match self.rng.below(100) {
             0..=29 => Call::Step(self.smoke()),
             30..=42 => self.wind(),
@@ -58,11 +69,11 @@ impl Maker {
         }
     }
 
-    fn smoke(&mut self) -> usize {
+    pub fn smoke(&mut self) -> usize {
         self.rng.index(self.shape.k)
     }
 
-    fn element(&mut self) -> (usize, usize) {
+    pub fn element(&mut self) -> (usize, usize) {
         (self.rng.index(self.shape.nx), self.rng.index(self.shape.ny))
     }
 
@@ -80,24 +91,19 @@ impl Maker {
         Call::Import(records(&mut self.rng, self.shape.elements()))
     }
 
-    /// The number a reading gives.
-    fn number(&mut self, call: Call) -> u64 {
-        match self.state.run(&call) {
-            Answer::Number(number) => number,
-            other => panic!("a good reading answered {other}"),
-        }
+    /// What the element holds, in an unsound field too.
+    pub fn mass(&self, smoke: usize, i: usize, j: usize) -> u64 {
+        let place = self.shape.place(smoke, i, j);
+        element_mass(&self.state.field[place..place + PER_ELEMENT])
     }
 
-    fn mass(&mut self, smoke: usize, i: usize, j: usize) -> u64 {
-        self.number(Call::Mass(smoke, i, j))
+    /// How much may be emitted before the limit is met, by the stored total
+    /// (request 2026-06).
+    fn room(&self, smoke: usize) -> u64 {
+        LIMIT.saturating_sub(stored_total(&self.state.field, self.shape, smoke))
     }
 
-    /// How much may be emitted before the limit is met.
-    fn room(&mut self, smoke: usize) -> u64 {
-        LIMIT - self.number(Call::Total(smoke))
-    }
-
-    fn emission(&mut self) -> Call {
+    pub fn emission(&mut self) -> Call {
         let (smoke, (i, j)) = (self.smoke(), self.element());
         let room = self.room(smoke);
         let q = match self.rng.below(8) {
@@ -110,7 +116,7 @@ impl Maker {
         Call::Emission(smoke, i, j, q)
     }
 
-    fn withdrawal(&mut self) -> Call {
+    pub fn withdrawal(&mut self) -> Call {
         let (smoke, (i, j)) = (self.smoke(), self.element());
         let held = self.mass(smoke, i, j);
         let q = match self.rng.below(8) {
@@ -125,7 +131,7 @@ impl Maker {
 
     /// Numbers of a good load: mostly near-empty elements, a few spikes, and
     /// at times filled up to exactly the limit.
-    fn numbers(&mut self) -> Vec<u32> {
+    pub fn numbers(&mut self) -> Vec<u32> {
         let mut numbers = vec![0; self.shape.load_len()];
         let small = self.rng.pick(&[1, 3, 40, 400]);
         for number in &mut numbers {
@@ -243,7 +249,7 @@ impl Maker {
         }
     }
 
-    fn refused_element(&mut self) -> Call {
+    pub fn refused_element(&mut self) -> Call {
         let (smoke, (i, j)) = (self.smoke(), self.no_element());
         match self.rng.below(4) {
             0 => Call::Wind(self.way(), i, j, 1024),

@@ -2,7 +2,7 @@
 //! smoke levelled, and after it with held smoke by its face (request 2026-05).
 
 use crate::calls::signed_values;
-use crate::checks::smoke_part;
+use crate::checks::smoke_elements;
 use crate::closing::Nodes;
 use crate::held::Held;
 use crate::lists::{parsed, Call, State};
@@ -27,7 +27,7 @@ fn maps(state: &State, smoke: usize) -> Result<String, u8> {
     let shape = state.shape()?;
     let levelled = stepped(Held::Levelled, state, shape, smoke)?;
     let by_its_face = stepped(Held::ByItsFace, state, shape, smoke)?;
-    let parts = [&state.field, &levelled, &by_its_face].map(|f| smoke_part(f, shape, smoke));
+    let parts = [&state.field, &levelled, &by_its_face].map(|f| smoke_elements(f, shape, smoke));
     let largest = parts.concat().into_iter().max();
     let width = 1 + largest.map_or(0, |number| number.to_string().len());
     let [before, levelled, by_its_face] = parts.map(|part| map(part, shape, width));

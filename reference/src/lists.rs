@@ -1,7 +1,9 @@
 //! Lists of calls: their script form, and a state that runs them.
 
 use crate::calls::{emission, load, mass, total, wind, withdrawal, Way};
+use crate::file::{write_file, Mark};
 use crate::import::import;
+use crate::map::map;
 use crate::shape::Shape;
 use crate::step::step;
 use std::fmt;
@@ -20,6 +22,14 @@ pub enum Call {
     Step(usize),
     Mass(usize, usize, usize),
     Total(usize),
+    /// The printed map of a smoke, of which the script shows only the number.
+    Map(usize),
+    /// File writing, of which the script shows only the length.
+    Write,
+    /// No call of the document: the script itself writes one number of a
+    /// smoke's part of the field, by its place in the part. It makes fields
+    /// unsound; the stored total (request 2026-06) is the last number.
+    Poke(usize, usize, u32),
 }
 
 #[derive(Clone, Debug, PartialEq, Eq)]
@@ -32,6 +42,8 @@ pub enum Answer {
     Stepped(Vec<i32>, u64),
     Number(u64),
     Refused(u8),
+    /// A number was written by the script.
+    Poked,
 }
 
 /// A grid with field and wind all zero and buffers of exactly the needed
@@ -94,8 +106,40 @@ impl State {
             }
             Call::Mass(s, i, j) => return Ok(Answer::Number(mass(field, nx, ny, k, *s, *i, *j)?)),
             Call::Total(s) => return Ok(Answer::Number(total(field, nx, ny, k, *s)?)),
+            Call::Map(s) => return self.printed(*s),
+            Call::Write => return self.written(),
+            Call::Poke(s, at, number) => return self.poked(*s, *at, *number),
         }
         Ok(Answer::Accepted)
+    }
+
+    fn printed(&self, smoke: usize) -> Result<Answer, u8> {
+        let mut page = vec![0; self.shape()?.page_len()];
+        let written = map(&mut page, &self.field, self.nx, self.ny, self.k, smoke)?;
+        Ok(Answer::Number(written))
+    }
+
+    fn written(&self) -> Result<Answer, u8> {
+        let mut out = vec![0; self.shape()?.file_len(Mark::Plu2)];
+        let (field, wind) = (&self.field, &self.wind);
+        let length = write_file(field, wind, &mut out, self.nx, self.ny, self.k)?;
+        Ok(Answer::Number(length as u64))
+    }
+
+    fn poked(&mut self, smoke: usize, at: usize, number: u32) -> Result<Answer, u8> {
+        let start = self.shape()?.place(smoke, 0, 0);
+        self.field[start + at] = number;
+        Ok(Answer::Poked)
+    }
+
+    /// Is the place of a poke in the field? That of any other call is a check
+    /// of its own.
+    fn has_place(&self, call: &Call) -> bool {
+        match (call, self.shape()) {
+            (Call::Poke(s, at, _), Ok(shape)) => *s < shape.k && *at < shape.smoke_len(),
+            (Call::Poke(..), Err(_)) => false,
+            _ => true,
+        }
     }
 }
 
@@ -118,6 +162,7 @@ impl fmt::Display for Answer {
             }
             Answer::Number(number) => write!(f, "{number}"),
             Answer::Refused(number) => write!(f, "refused {number}"),
+            Answer::Poked => write!(f, "poked"),
         }
     }
 }
@@ -134,6 +179,9 @@ impl fmt::Display for Call {
             Call::Step(s) => write!(f, "step {s}"),
             Call::Mass(s, i, j) => write!(f, "mass {s} {i} {j}"),
             Call::Total(s) => write!(f, "total {s}"),
+            Call::Map(s) => write!(f, "map {s}"),
+            Call::Write => write!(f, "write"),
+            Call::Poke(s, at, number) => write!(f, "poke {s} {at} {number}"),
         }
     }
 }
@@ -168,6 +216,9 @@ fn parsed_words(words: &mut SplitWhitespace) -> Result<Call, String> {
         "step" => Call::Step(next(words)?),
         "mass" => Call::Mass(next(words)?, next(words)?, next(words)?),
         "total" => Call::Total(next(words)?),
+        "map" => Call::Map(next(words)?),
+        "write" => Call::Write,
+        "poke" => Call::Poke(next(words)?, next(words)?, next(words)?),
         other => return Err(format!("no call named {other:?}")),
     };
     Ok(call)
@@ -203,8 +254,13 @@ fn grid(line: &str) -> Result<State, String> {
 pub fn parsed(script: &str) -> Result<(State, Vec<Call>), String> {
     let mut lines = script.lines().filter(|line| !line.trim().is_empty());
     let state = grid(lines.next().unwrap_or(""))?;
-    let call = |line: &str| line.parse().map_err(|what| format!("{what} in: {line}"));
-    Ok((state, lines.map(call).collect::<Result<_, _>>()?))
+    let call = |line: &str| match line.parse() {
+        Ok(call) if state.has_place(&call) => Ok(call),
+        Ok(_) => Err(format!("no such place in: {line}")),
+        Err(what) => Err(format!("{what} in: {line}")),
+    };
+    let calls = lines.map(call).collect::<Result<_, _>>()?;
+    Ok((state, calls))
 }
 
 /// Runs a script and gives what is printed.

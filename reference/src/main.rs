@@ -1,4 +1,7 @@
-use reference::{generator, held_map, lists, map_program, program, random_file, Shape};
+use reference::file::Mark;
+use reference::{
+    generator, held_map, lists, map_program, program, random_file, unsound_generator, Shape,
+};
 use std::io::{self, Read, Write};
 use std::process::ExitCode;
 use std::str::FromStr;
@@ -8,7 +11,9 @@ const USAGE: &str = "usage: reference program < FILE
        reference lists < SCRIPT
        reference held < SCRIPT
        reference random SEED NX NY K COUNT
-       reference field SEED NX NY K [KIND]";
+       reference random-unsound SEED NX NY K COUNT
+       reference field SEED NX NY K [KIND]
+       reference field-plum SEED NX NY K [KIND]";
 
 /// Refusals are answers and are printed with success; only a malformed
 /// command or script fails.
@@ -34,20 +39,37 @@ fn answer(words: &[String]) -> Result<Vec<u8>, String> {
         ["lists"] => Ok(lists::output(&script()?)?.into_bytes()),
         ["held"] => Ok(held_map::output(&script()?)?.into_bytes()),
         ["random", seed, nx, ny, k, count] => {
-            let (nx, ny, k) = (number(nx)?, number(ny)?, number(k)?);
-            let script = generator::script(number(seed)?, nx, ny, k, number(count)?);
-            Ok(script.map_err(no_shape)?.into_bytes())
+            random(generator::script, number(seed)?, [nx, ny, k], count)
         }
-        ["field", seed, nx, ny, k] => file(number(seed)?, nx, ny, k, None),
-        ["field", seed, nx, ny, k, kind] => file(number(seed)?, nx, ny, k, Some(kind)),
+        ["random-unsound", seed, nx, ny, k, count] => {
+            random(unsound_generator::script, number(seed)?, [nx, ny, k], count)
+        }
+        ["field", seed, nx, ny, k] => file(Mark::Plu2, number(seed)?, [nx, ny, k], None),
+        ["field", seed, nx, ny, k, kind] => {
+            file(Mark::Plu2, number(seed)?, [nx, ny, k], Some(kind))
+        }
+        ["field-plum", seed, nx, ny, k] => file(Mark::Plum, number(seed)?, [nx, ny, k], None),
+        ["field-plum", seed, nx, ny, k, kind] => {
+            file(Mark::Plum, number(seed)?, [nx, ny, k], Some(kind))
+        }
         _ => Err(USAGE.to_string()),
     }
 }
 
-fn file(seed: u64, nx: &str, ny: &str, k: &str, kind: Option<&str>) -> Result<Vec<u8>, String> {
+type Generator = fn(u64, usize, usize, usize, usize) -> Result<String, u8>;
+
+fn random(made: Generator, seed: u64, size: [&str; 3], count: &str) -> Result<Vec<u8>, String> {
+    let [nx, ny, k] = size;
+    let script = made(seed, number(nx)?, number(ny)?, number(k)?, number(count)?);
+    Ok(script.map_err(no_shape)?.into_bytes())
+}
+
+/// A field file, sound or of a kind of damage.
+fn file(mark: Mark, seed: u64, size: [&str; 3], kind: Option<&str>) -> Result<Vec<u8>, String> {
+    let [nx, ny, k] = size;
     let (nx, ny, k) = (number(nx)?, number(ny)?, number(k)?);
     let shape = Shape::checked(nx, ny, k).map_err(no_shape)?;
-    let mut bytes = random_file::sound_file(seed, nx, ny, k).map_err(no_shape)?;
+    let mut bytes = random_file::sound_file_as(mark, seed, nx, ny, k).map_err(no_shape)?;
     if let Some(kind) = kind {
         random_file::damaged(&mut bytes, shape, kind, seed)?;
     }

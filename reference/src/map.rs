@@ -3,14 +3,15 @@
 //! before the last check.
 
 use crate::checks::{
-    element_mass, long_enough, smoke_exists, smoke_part, smoke_sound, smoke_total,
+    element_mass, long_enough, smoke_elements, smoke_exists, smoke_sound, smoke_total,
 };
 use crate::shape::{Shape, PAGE_COLUMNS, PAGE_WIDTH, PER_ELEMENT};
 use std::fmt::{Display, Write};
 
-/// Checks 2 4 6 7, those of a smoke's total; the lent page must be long
-/// enough as well. "It's a reading, and its number is the bytes written."
-/// Bytes of `page` beyond them are surplus and left alone.
+/// Checks 2 4 6 7; the lent page must be long enough as well. The smoke is
+/// summed as for a step, and 6 is also a stored total that differs (request
+/// 2026-06). "It's a reading, and its number is the bytes written." Bytes of
+/// `page` beyond them are surplus and left alone.
 pub fn map(
     page: &mut [u8],
     field: &[u32],
@@ -31,8 +32,8 @@ pub fn map(
 
 /// "The page goes in blocks of seven columns of elements, west first."
 fn page_text(field: &[u32], shape: Shape, smoke: usize) -> String {
-    let part = smoke_part(field, shape, smoke);
-    let masses: Vec<u64> = part.chunks_exact(PER_ELEMENT).map(element_mass).collect();
+    let elements = smoke_elements(field, shape, smoke).chunks_exact(PER_ELEMENT);
+    let masses: Vec<u64> = elements.map(element_mass).collect();
     let mut text = String::with_capacity(shape.page_len());
     for west in (0..shape.nx).step_by(PAGE_COLUMNS) {
         text.push_str(&block(&masses, shape, west));

@@ -1,6 +1,7 @@
 //! The grid's shape, the lengths it gives, and the places of elements.
 
 use crate::checks::BAD_SHAPE;
+use crate::file::Mark;
 
 /// "A smoke's total is the sum of M, at most 100,000,000."
 pub const LIMIT: u64 = 100_000_000;
@@ -50,9 +51,15 @@ impl Shape {
         self.nx * self.ny
     }
 
-    /// Numbers of one smoke in the field buffer.
-    pub fn smoke_len(self) -> usize {
+    /// Numbers of one smoke's elements, all ten of each.
+    pub fn elements_len(self) -> usize {
         PER_ELEMENT * self.elements()
+    }
+
+    /// Numbers of one smoke in the field buffer. Document 02, 2026-06: "Each
+    /// smoke gets one u32 more after its last element, holding its total."
+    pub fn smoke_len(self) -> usize {
+        self.elements_len() + 1
     }
 
     pub fn field_len(self) -> usize {
@@ -73,17 +80,26 @@ impl Shape {
         NODES * self.elements()
     }
 
+    /// Bytes of a smoke's section in the file. Document 02, 2026-06: "The
+    /// file's smoke section ends with the total", but not under "PLUM".
+    pub fn section_len(self, mark: Mark) -> usize {
+        match mark {
+            Mark::Plum => 4 * self.elements_len(),
+            Mark::Plu2 => 4 * self.smoke_len(),
+        }
+    }
+
     /// Offset in the file of a smoke's section; `smoke == k` gives the table's.
-    pub fn section_offset(self, smoke: usize) -> usize {
-        2 * self.wind_len() + 4 * self.smoke_len() * smoke
+    pub fn section_offset(self, mark: Mark, smoke: usize) -> usize {
+        2 * self.wind_len() + self.section_len(mark) * smoke
     }
 
-    pub fn table_offset(self) -> usize {
-        self.section_offset(self.k)
+    pub fn table_offset(self, mark: Mark) -> usize {
+        self.section_offset(mark, self.k)
     }
 
-    pub fn file_len(self) -> usize {
-        self.table_offset() + 4 * (self.k + 1) + TAIL
+    pub fn file_len(self, mark: Mark) -> usize {
+        self.table_offset(mark) + 4 * (self.k + 1) + TAIL
     }
 
     /// Bytes of a printed map (request 2026-03). The last block may have fewer
@@ -108,6 +124,12 @@ impl Shape {
     /// Where an element's ten numbers start in the field buffer.
     pub fn place(self, smoke: usize, i: usize, j: usize) -> usize {
         smoke * self.smoke_len() + PER_ELEMENT * self.element(i, j)
+    }
+
+    /// Where a smoke's stored total stands in the field buffer (request
+    /// 2026-06).
+    pub fn total_place(self, smoke: usize) -> usize {
+        self.place(smoke, 0, 0) + self.elements_len()
     }
 
     pub fn east_of(self, i: usize) -> usize {

@@ -10,7 +10,8 @@ use crate::tendency::{tendencies, Winds};
 
 /// Checks 2 4 5 6 7. Of `work` only the length matters: "An accepted step
 /// leaves work free: any content", and leaving it as it was is one content.
-/// Answers the clipped mass of all its elements (request 2026-04).
+/// Answers the clipped mass of all its elements (request 2026-04). The smoke's
+/// stored total must be its sum, and "a step leaves it" (request 2026-06).
 #[allow(clippy::too_many_arguments)]
 pub fn step(
     field: &mut [u32],
@@ -51,7 +52,7 @@ pub fn step_with(
 
     let winds = Winds { shape, faces: wind };
     let start = shape.place(smoke, 0, 0);
-    let part = &mut field[start..start + shape.smoke_len()];
+    let part = &mut field[start..start + shape.elements_len()];
     let (moved, clipped) = advance(held, &winds, part);
     for (face, &g) in moved.iter().enumerate() {
         report[face] = i32::try_from(g).expect("no face moves more than its donor's M");

@@ -3,10 +3,15 @@
 //! the weighted sum of the levelled numbers, and case F's last field are of
 //! request 2026-04.
 
+mod smokes;
+
 use reference::closing::{close, level, weighted, Closed};
+use reference::file::{encoded_as, Mark};
 use reference::flux::{corrected, cut, donor, face_amount};
 use reference::program::output;
-use reference::{emission, load, mass, step, total, wind, withdrawal, write_file, Shape, Way};
+use reference::{emission, load, mass, step, total, wind, withdrawal, Shape, Way};
+use reference::{read_file, write_file};
+use smokes::smoke;
 
 /// Corners, edges and centre in the order b outer, a inner.
 fn nodes(corner: i128, edge: i128, centre: i128) -> [i128; 9] {
@@ -119,35 +124,35 @@ fn wind_at_its_edge() {
 
 #[test]
 fn withdrawal_at_its_edge() {
-    let full = [7, 7, 7, 7, 7, 7, 7, 7, 7, 5];
-    let mut field = full;
+    let full = smoke(&[7, 7, 7, 7, 7, 7, 7, 7, 7, 5]);
+    let mut field = full.clone();
     assert_eq!(mass(&field, 1, 1, 1, 0, 0, 0), Ok(257));
     assert_eq!(withdrawal(&mut field, 1, 1, 1, 0, 0, 0, 258), Err(10));
     assert_eq!(field, full);
     assert_eq!(withdrawal(&mut field, 1, 1, 1, 0, 0, 0, 257), Ok(0));
-    assert_eq!(field, [0; 10]);
+    assert_eq!(field, [0; 11]);
 }
 
 #[test]
 fn withdrawal_is_not_levelled() {
     // T = 200 below P = 252: each 7 becomes floor(7 · 200 / 252) = 5.
-    let mut field = [7, 7, 7, 7, 7, 7, 7, 7, 7, 5];
+    let mut field = smoke(&[7, 7, 7, 7, 7, 7, 7, 7, 7, 5]);
     assert_eq!(withdrawal(&mut field, 1, 1, 1, 0, 0, 0, 57), Ok(0));
-    assert_eq!(field, [5, 5, 5, 5, 5, 5, 5, 5, 5, 20]);
+    assert_eq!(field, smoke(&[5, 5, 5, 5, 5, 5, 5, 5, 5, 20]));
     // T = 162 keeps the values: the remainder gives it alone.
-    let mut spike = [0, 0, 0, 0, 10, 0, 0, 0, 0, 3];
+    let mut spike = smoke(&[0, 0, 0, 0, 10, 0, 0, 0, 0, 3]);
     assert_eq!(withdrawal(&mut spike, 1, 1, 1, 0, 0, 0, 1), Ok(0));
-    assert_eq!(spike, [0, 0, 0, 0, 10, 0, 0, 0, 0, 2]);
+    assert_eq!(spike, smoke(&[0, 0, 0, 0, 10, 0, 0, 0, 0, 2]));
     // T = 1510 below P = 1610. Levelled by floor(−100 / 36) = −3 the corner
     // would be 7 and end as 6, and the seven zeros would give a figure of 57.
-    let mut two = [10, 0, 0, 0, 100, 0, 0, 0, 0, 3];
+    let mut two = smoke(&[10, 0, 0, 0, 100, 0, 0, 0, 0, 3]);
     assert_eq!(withdrawal(&mut two, 1, 1, 1, 0, 0, 0, 103), Ok(0));
-    assert_eq!(two, [9, 0, 0, 0, 93, 0, 0, 0, 0, 13]);
+    assert_eq!(two, smoke(&[9, 0, 0, 0, 93, 0, 0, 0, 0, 13]));
 }
 
 #[test]
 fn total_at_its_edge() {
-    let mut field = [0; 10];
+    let mut field = [0; 11];
     let mut numbers = [0; 9];
     numbers[0] = 100_000_000;
     assert_eq!(load(&mut field, &numbers, 1, 1, 1, 0), Ok(()));
@@ -159,11 +164,11 @@ fn total_at_its_edge() {
     assert_eq!(load(&mut field, &numbers, 1, 1, 1, 0), Err(9));
     assert_eq!(field, full);
     // Stored beside the edge: 99,999,999 takes one more, 100,000,001 is 6.
-    field[0] -= 1;
+    (field[0], field[10]) = (99_999_999, 99_999_999);
     assert_eq!(emission(&mut field, 1, 1, 1, 0, 0, 0, 2), Err(9));
     assert_eq!(emission(&mut field, 1, 1, 1, 0, 0, 0, 1), Ok(0));
     assert_eq!(total(&field, 1, 1, 1, 0), Ok(100_000_000));
-    field[9] += 1;
+    field[10] += 1;
     assert_eq!(total(&field, 1, 1, 1, 0), Err(6));
 }
 
@@ -180,7 +185,7 @@ fn even_smoke_in_even_wind_stays() {
         (10, -10, 1, -1),
     ] {
         let faces = [[east; 12], [north; 12]].concat();
-        let mut field = [7, 7, 7, 7, 7, 7, 7, 7, 7, 5].repeat(12);
+        let mut field = smoke(&[7, 7, 7, 7, 7, 7, 7, 7, 7, 5].repeat(12));
         let before = field.clone();
         let (mut report, mut work) = ([9; 24], [9; 64 * 12]);
         let answer = step(&mut field, &faces, &mut report, &mut work, nx, ny, 1, 0);
@@ -221,13 +226,39 @@ fn case_f() -> Vec<u8> {
     file
 }
 
+/// Case F under the mark "PLU2" (request 2026-06): the total ends the section,
+/// so the table is at 48.
+fn case_f_with_its_total() -> Vec<u8> {
+    let mut file = case_f();
+    file.splice(44..44, 257_u32.to_le_bytes());
+    (file[60], file[67]) = (48, b'2');
+    file
+}
+
 #[test]
-fn case_f_is_written_so() {
-    let field = [7, 7, 7, 7, 7, 7, 7, 7, 7, 5];
-    let mut out = [255; 66];
-    assert_eq!(write_file(&field, &[1024, 0], &mut out, 1, 1, 1), Ok(64));
-    assert_eq!(out[..64], case_f());
-    assert_eq!(out[64..], [255, 255]);
+fn case_f_under_its_own_mark() {
+    let field = smoke(&[7, 7, 7, 7, 7, 7, 7, 7, 7, 5]);
+    let shape = Shape { nx: 1, ny: 1, k: 1 };
+    let file = encoded_as(Mark::Plum, &field, &[1024, 0], shape);
+    assert_eq!(file, case_f());
+    let (mut read, mut wind) = ([9; 12], [9; 3]);
+    assert_eq!(read_file(&file, &mut read, &mut wind), Ok(shape));
+    assert_eq!((&read[..11], read[11]), (&field[..], 9));
+    assert_eq!(wind, [1024, 0, 9]);
+}
+
+/// Document 02, 2026-06: ""PLUM" is still read, its totals worked out, and such
+/// a file is written again as "PLU2"".
+#[test]
+fn case_f_is_written_again_as_plu2() {
+    let (mut field, mut wind) = ([0; 11], [0; 2]);
+    for file in [case_f(), case_f_with_its_total()] {
+        assert!(read_file(&file, &mut field, &mut wind).is_ok());
+        let mut out = [255; 70];
+        assert_eq!(write_file(&field, &wind, &mut out, 1, 1, 1), Ok(68));
+        assert_eq!(out[..68], case_f_with_its_total());
+        assert_eq!(out[68..], [255, 255]);
+    }
 }
 
 /// Document 02, 2026-04: "case F ends "total 0 257 0"".
@@ -236,4 +267,5 @@ fn case_f_output_whole() {
     assert_eq!(case_f().len(), 64);
     let whole = b"grid 1 1 1\nface 0 east 0 0 63\nface 0 north 0 0 0\ntotal 0 257 0\n";
     assert_eq!(output(&case_f()).as_bytes(), whole);
+    assert_eq!(output(&case_f_with_its_total()).as_bytes(), whole);
 }

@@ -1,9 +1,12 @@
 //! How much was cut (request 2026-04): closings and steps worked out by hand,
 //! and what lists and the program show of them.
 
+mod smokes;
+
 use reference::closing::{close, close_unlevelled, Closed};
 use reference::file::encoded;
 use reference::{lists, program, step, Shape};
+use smokes::smoke;
 
 /// A closing's answer.
 fn closed(numbers: [u32; 10], clipped: u64) -> Closed {
@@ -95,9 +98,9 @@ fn element(line: [u32; 3], rest: u32) -> Vec<u32> {
     [line.repeat(3), vec![rest]].concat()
 }
 
-/// Two such elements.
+/// A smoke of two such elements.
 fn lines(west: [u32; 3], east: [u32; 3], remainders: [u32; 2]) -> Vec<u32> {
-    [element(west, remainders[0]), element(east, remainders[1])].concat()
+    smoke(&[element(west, remainders[0]), element(east, remainders[1])].concat())
 }
 
 /// A step's answer and report, on a grid of one row and one smoke.
@@ -202,7 +205,7 @@ fn amounts_of_elements_to_themselves() {
     let answer = stepped(&mut field, &[1024; 4], 2);
     assert_eq!(answer, (Ok(144 + 13), vec![200, -20, 19, 0]));
     let east = vec![14, 0, 0, 19, 3, 0, 24, 8, 5, 21];
-    assert_eq!(field, [element([0, 0, 2], 8), east].concat());
+    assert_eq!(field, smoke(&[element([0, 0, 2], 8), east].concat()));
 }
 
 /// One element is its own neighbour, so T = M, the remainder among it. In an
@@ -218,10 +221,10 @@ fn the_remainder_decides_the_levelling() {
         (6, kept, 0, 0),
         (35, kept, 29, 0),
     ] {
-        let mut field = element([0, 0, 4], rest);
+        let mut field = smoke(&element([0, 0, 4], rest));
         let answer = stepped(&mut field, &[1024, 0], 1);
         assert_eq!(answer, (Ok(clipped), vec![20, 0]));
-        assert_eq!(field, element(line, left));
+        assert_eq!(field, smoke(&element(line, left)));
     }
 }
 
@@ -247,8 +250,8 @@ fn a_list_shows_the_figures() {
                    accepted 18 -5 0 0 clipped 30\naccepted 217 -22 0 0 clipped 144\n\
                    accepted\naccepted 18 -5 0 0 clipped 30\n\
                    accepted clipped 0\naccepted clipped 0\nrefused 10\nrefused 7\n\
-                   field 0 0 0 0 0 0 0 0 0 2 0 0 0 0 0 0 0 0 0 0 \
-                   0 0 0 0 0 0 0 0 0 1 22 3 0 22 3 0 22 3 0 35\n\
+                   field 0 0 0 0 0 0 0 0 0 2 0 0 0 0 0 0 0 0 0 0 2 \
+                   0 0 0 0 0 0 0 0 0 1 22 3 0 22 3 0 22 3 0 35 240\n\
                    wind 1024 1024 0 0\n";
     assert_eq!(lists::output(script).unwrap(), printed);
 }

@@ -1,10 +1,13 @@
 //! Face amounts to the nearest (request 2026-02): halves, many products, any
 //! divisor, and steps whose reports show the rule.
 
+mod smokes;
+
 use reference::flux::{cut, donor, face_amount};
 use reference::nearest::nearest;
 use reference::rng::Rng;
 use reference::{step, Shape};
+use smokes::smoke;
 
 /// Document 02, 2026-02: "to the nearest whole number, an exact half to the
 /// even one", told without a division: twice the distance from divisor · g is
@@ -163,7 +166,7 @@ fn any_divisor() {
 #[test]
 fn halves_reach_the_report() {
     for (value, amount) in [(1, 4), (2, 9), (3, 14), (5, 22), (7, 32), (9, 40)] {
-        let mut field = [[value; 9].as_slice(), &[5]].concat().repeat(4);
+        let mut field = smoke(&[[value; 9].as_slice(), &[5]].concat().repeat(4));
         let before = field.clone();
         let faces = [512, 512, 512, 512, -512, -512, -512, -512];
         let (mut report, mut work) = ([99; 8], [0; 64 * 4]);

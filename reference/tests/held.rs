@@ -1,9 +1,12 @@
 //! Held smoke stays by its face (request 2026-05): shares, nodes and steps
 //! worked out by hand.
 
+mod smokes;
+
 use reference::held::{keep_by_faces, share, Held};
 use reference::step::step_with;
 use reference::{step, Shape};
+use smokes::smoke;
 
 /// "q = d / 6 truncated toward zero", with d = G − G*. Floor would give −1 for
 /// −5 and −2 for −7.
@@ -162,12 +165,12 @@ fn steps(before: &[u32], wind: &[i16], nx: usize) -> [Given; 2] {
 /// instead of −1, −2, would give 16 0 16 in the north.
 #[test]
 fn a_step_of_one_element() {
-    let before = element([[0, 0, 32]; 3], 0);
+    let before = smoke(&element([[0, 0, 32]; 3], 0));
     let [levelled, by_its_face] = steps(&before, &[1024, -1024], 1);
     let report = vec![150, -41];
-    let field = element([[20, 0, 11]; 3], 6);
+    let field = smoke(&element([[20, 0, 11]; 3], 6));
     assert_eq!(levelled, (field, Ok(24), report.clone()));
-    let field = element([[17, 0, 16], [16, 0, 15], [16, 0, 14]], 5);
+    let field = smoke(&element([[17, 0, 16], [16, 0, 15], [16, 0, 14]], 5));
     assert_eq!(by_its_face, (field, Ok(24), report));
 }
 
@@ -182,10 +185,10 @@ fn a_step_of_one_element() {
 /// after the rule: 144, not 120.
 #[test]
 fn the_figure_is_taken_after_the_rule() {
-    let before = [element([[0, 0, 40]; 3], 0), element([[0; 3]; 3], 0)].concat();
+    let before = smoke(&[element([[0, 0, 40]; 3], 0), element([[0; 3]; 3], 0)].concat());
     let [levelled, by_its_face] = steps(&before, &[1024, 1024, 0, 0], 2);
     let report = vec![217, -22, 0, 0];
-    let field = |line, rest| [element([[0; 3]; 3], 1), element([line; 3], rest)].concat();
+    let field = |line, rest| smoke(&[element([[0; 3]; 3], 1), element([line; 3], rest)].concat());
     assert_eq!(levelled, (field([25, 3, 0], 17), Ok(120), report.clone()));
     assert_eq!(by_its_face, (field([22, 3, 0], 35), Ok(144), report));
 }
@@ -194,7 +197,7 @@ fn the_figure_is_taken_after_the_rule() {
 /// that hold back less than 6 keep no share.
 #[test]
 fn a_small_cut_changes_nothing() {
-    let before = [element([[0, 0, 4]; 3], 0), element([[0; 3]; 3], 0)].concat();
+    let before = smoke(&[element([[0, 0, 4]; 3], 0), element([[0; 3]; 3], 0)].concat());
     let [levelled, by_its_face] = steps(&before, &[1024, 1024, 0, 0], 2);
     assert_eq!(levelled.2, [18, -5, 0, 0]);
     assert_eq!(levelled, by_its_face);
@@ -203,11 +206,11 @@ fn a_small_cut_changes_nothing() {
 /// The step that callers reach follows the rule.
 #[test]
 fn the_step_keeps_held_smoke_by_its_face() {
-    let mut field = element([[0, 0, 32]; 3], 0);
+    let mut field = smoke(&element([[0, 0, 32]; 3], 0));
     let (mut report, mut work) = ([99; 2], [0; 64]);
     let wind = [1024, -1024];
     let answer = step(&mut field, &wind, &mut report, &mut work, 1, 1, 1, 0);
     assert_eq!((answer, report), (Ok(24), [150, -41]));
-    let by_its_face = element([[17, 0, 16], [16, 0, 15], [16, 0, 14]], 5);
+    let by_its_face = smoke(&element([[17, 0, 16], [16, 0, 15], [16, 0, 14]], 5));
     assert_eq!(field, by_its_face);
 }

@@ -47,7 +47,7 @@ fn read(second: Stepped) -> Given {
 }
 
 fn masses(part: &[u32]) -> Vec<u64> {
-    part.chunks(10).map(element_mass).collect()
+    part.chunks_exact(10).map(element_mass).collect()
 }
 
 /// How often the rule matters.
@@ -140,6 +140,17 @@ fn steps_of_files() {
     met.tell("files");
 }
 
+/// Makes a smoke full, with its stored total.
+fn fill(part: &mut [u32]) {
+    for element in part.chunks_exact_mut(10) {
+        for value in &mut element[..9] {
+            *value = 20 + *value % 20;
+        }
+    }
+    let sum: u64 = masses(part).iter().sum();
+    *part.last_mut().unwrap() = sum as u32;
+}
+
 /// Full fields in weak winds: face amounts stay far below what the elements
 /// hold, so no face is ever cut and the rule never shows.
 #[test]
@@ -147,10 +158,8 @@ fn steps_without_a_cut_face() {
     let mut met = Met::default();
     for (seed, shape) in seeded(400) {
         let (mut field, mut wind) = buffers(9000 + seed, shape);
-        for element in field.chunks_mut(10) {
-            for value in &mut element[..9] {
-                *value = 20 + *value % 20;
-            }
+        for part in field.chunks_mut(shape.smoke_len()) {
+            fill(part);
         }
         for c in &mut wind {
             *c /= 16;

@@ -2,15 +2,17 @@
 //! can be evaluated on them and held to the same numbers. Two smokes, buffers
 //! of exactly the needed lengths, field and wind all zero at the start.
 
+mod named;
 mod shared;
 
+use named::smoke_of;
 use reference::lists::{Call, State};
 use reference::Shape;
-use shared::{smoke_of, Ledger};
+use shared::Ledger;
 
 /// Each call with its answer, an emission's, a withdrawal's and a step's with
 /// the clipped mass (request 2026-04); then the wind, the two smokes' parts of
-/// the field, and what the ledger holds of each after the last call.
+/// the field, each with its stored total (request 2026-06), and what the ledger holds of each after the last call.
 struct Listing {
     shape: Shape,
     calls: &'static [(&'static str, &'static str)],
@@ -50,11 +52,13 @@ const ON_ONE_ROW: Listing = Listing {
     parts: [
         &[
             0, 0, 1, 0, 0, 0, 0, 0, 0, 1, //
-            6, 3, 0, 1, 1, 0, 4, 2, 1, 11,
+            6, 3, 0, 1, 1, 0, 4, 2, 1, 11, //
+            64,
         ],
         &[
             1, 4, 4, 1, 4, 4, 1, 4, 4, 14, //
-            3, 0, 0, 3, 0, 0, 3, 0, 0, 14,
+            3, 0, 0, 3, 0, 0, 3, 0, 0, 14, //
+            172,
         ],
     ],
     held: [&[2, 62], &[140, 32]],
@@ -135,13 +139,15 @@ const ALL_FOUR_WAYS: Listing = Listing {
             0, 11, 10, 6, 23, 1, 4, 14, 2, 15, //
             7, 0, 2, 0, 0, 0, 3, 0, 0, 14, //
             2, 3, 0, 0, 7, 6, 0, 7, 7, 0, //
-            7, 4, 1, 14, 5, 0, 16, 4, 0, 22,
+            7, 4, 1, 14, 5, 0, 16, 4, 0, 22, //
+            952,
         ],
         &[
             0, 0, 0, 3, 5, 1, 3, 7, 1, 19, //
             0, 0, 0, 0, 0, 0, 0, 0, 0, 0, //
             0, 2, 1, 0, 0, 0, 0, 0, 0, 16, //
-            0, 0, 0, 0, 0, 0, 0, 0, 0, 0,
+            0, 0, 0, 0, 0, 0, 0, 0, 0, 0, //
+            172,
         ],
     ],
     held: [&[527, 26, 185, 214], &[147, 0, 25, 0]],
@@ -171,6 +177,11 @@ fn the_whole_lists() {
         assert_eq!(state.field, listing.parts.concat());
         assert_eq!(state.wind, listing.wind);
         assert_eq!(ledger.held, listing.held.concat());
+        // The stored total is the sum of what the ledger says (request 2026-06).
+        for (part, held) in listing.parts.iter().zip(listing.held) {
+            let total = i64::from(*part.last().unwrap());
+            assert_eq!(total, held.iter().sum::<i64>());
+        }
     }
 }
 

@@ -1,29 +1,18 @@
-//! The printed map (request 2026-03): pages written by hand, every place of a
-//! page read back, every refusal, and what is left alone.
+//! The printed map (request 2026-03): pages written by hand, and every place of
+//! a page read back.
 
+mod pages;
+mod smokes;
+
+use pages::{field_of, smoke_of, OLD};
 use reference::random_file::sound_file;
 use reference::{map, mass, read_file, total, Shape};
-
-const HUGE: usize = usize::MAX;
-
-/// What stands in a page before a call.
-const OLD: u8 = 170;
-
-/// An element that holds m, in all nine values and the remainder.
-fn element(m: u32) -> [u32; 10] {
-    let mut element = [m / 36; 10];
-    element[9] = m % 36;
-    element
-}
-
-fn field_of(masses: &[u32]) -> Vec<u32> {
-    masses.iter().flat_map(|&m| element(m)).collect()
-}
+use smokes::smoke;
 
 /// The page of the only smoke, lent a buffer of just its length.
 fn page_of(masses: &[u32], nx: usize, ny: usize) -> String {
     let mut page = vec![OLD; Shape { nx, ny, k: 1 }.page_len()];
-    let written = map(&mut page, &field_of(masses), nx, ny, 1, 0);
+    let written = map(&mut page, &smoke_of(masses), nx, ny, 1, 0);
     assert_eq!(written, Ok(page.len() as u64));
     String::from_utf8(page).unwrap()
 }
@@ -181,10 +170,10 @@ fn the_largest_grid_with_all_in_one_element() {
 #[test]
 fn every_number_of_an_element_counts() {
     for (at, m) in [1, 4, 1, 4, 16, 4, 1, 4, 1, 1].into_iter().enumerate() {
-        let mut field = [0; 10];
-        field[at] = 30;
+        let mut element = [0; 10];
+        element[at] = 30;
         let mut page = [OLD; 222];
-        assert_eq!(map(&mut page, &field, 1, 1, 1, 0), Ok(222));
+        assert_eq!(map(&mut page, &smoke(&element), 1, 1, 1, 0), Ok(222));
         let held = format!("  0{:>10}{}\n", 30 * m, " ".repeat(60));
         assert_eq!(page[74..148], *held.as_bytes());
         let sum = format!("sum{:>70}\n", 30 * m);
@@ -272,116 +261,13 @@ fn the_number_is_the_bytes_written() {
         (63, 64, 586),
         (64, 64, 651),
     ] {
-        let field = vec![0; 10 * nx * ny * 2];
+        let field = vec![0; (10 * nx * ny + 1) * 2];
         let mut page = vec![OLD; 651 * 74];
         let written = map(&mut page, &field, nx, ny, 2, 1).unwrap() as usize;
         assert_eq!(written, lines * 74);
         assert_eq!(page[written - 1], b'\n');
         assert!(page[..written].iter().all(|&byte| byte != OLD));
         assert!(page[written..].iter().all(|&byte| byte == OLD));
-    }
-}
-
-/// The answer for 2 by 1 with two smokes, lent a page of so many bytes. A
-/// refused call must leave the whole page alone, an accepted one what is
-/// beyond its 222 bytes.
-fn answer(field: &[u32], bytes: usize, smoke: usize) -> Result<u64, u8> {
-    let mut page = vec![OLD; bytes];
-    let answer = map(&mut page, field, 2, 1, 2, smoke);
-    let kept = match answer {
-        Ok(_) => &page[222..],
-        Err(_) => &page[..],
-    };
-    assert!(kept.iter().all(|&byte| byte == OLD));
-    answer
-}
-
-#[test]
-fn shapes_outside_are_2_before_all() {
-    for (nx, ny, k) in [
-        (0, 1, 1),
-        (1, 0, 1),
-        (1, 1, 0),
-        (65, 1, 1),
-        (1, 65, 1),
-        (1, 1, 9),
-        (HUGE, HUGE, HUGE),
-    ] {
-        assert_eq!(map(&mut [], &[], nx, ny, k, HUGE), Err(2));
-        let mut page = vec![OLD; 651 * 74];
-        assert_eq!(map(&mut page, &[u32::MAX; 40], nx, ny, k, 0), Err(2));
-        assert_eq!(map(&mut page, &vec![0; 50_000], nx, ny, k, 0), Err(2));
-        assert!(page.iter().all(|&byte| byte == OLD));
-    }
-}
-
-#[test]
-fn short_slices_are_4_before_6_and_7() {
-    for number in [0, u32::MAX] {
-        let field = [number; 40];
-        for smoke in [0, 1, 2, HUGE] {
-            assert_eq!(answer(&field[..39], 222, smoke), Err(4));
-            assert_eq!(answer(&field, 221, smoke), Err(4));
-            assert_eq!(answer(&field[..39], 221, smoke), Err(4));
-            assert_eq!(answer(&field, 0, smoke), Err(4));
-            assert_eq!(answer(&[], 222, smoke), Err(4));
-        }
-    }
-    // All smokes' numbers are needed, also those after the named one.
-    assert_eq!(answer(&[0; 20], 222, 0), Err(4));
-    assert_eq!(answer(&[0; 40], 222, 0), Ok(222));
-    // On the largest grid, one byte too few.
-    let mut page = vec![OLD; 651 * 74];
-    let field = vec![0; 40_960];
-    assert_eq!(map(&mut page[..48_173], &field, 64, 64, 1, 0), Err(4));
-    assert!(page.iter().all(|&byte| byte == OLD));
-    assert_eq!(map(&mut page, &field, 64, 64, 1, 0), Ok(651 * 74));
-}
-
-#[test]
-fn unsound_smokes_are_6() {
-    for at in [9, 19] {
-        let mut field = [0; 40];
-        field[at] = 35;
-        assert_eq!(answer(&field, 222, 0), Ok(222));
-        for remainder in [36, u32::MAX] {
-            field[at] = remainder;
-            assert_eq!(answer(&field, 222, 0), Err(6));
-            // The other smoke's numbers are sound.
-            assert_eq!(answer(&field, 222, 1), Ok(222));
-        }
-    }
-    // A total of the limit, in one element or in two; then one more.
-    for (first, second) in [(100_000_000, 0), (99_999_999, 1), (0, 100_000_000)] {
-        let mut field = field_of(&[0, 0, first, second]);
-        assert_eq!(answer(&field, 222, 1), Ok(222));
-        field = field_of(&[0, 0, first, second + 1]);
-        assert_eq!(answer(&field, 222, 1), Err(6));
-        assert_eq!(answer(&field, 222, 0), Ok(222));
-    }
-    assert_eq!(answer(&[u32::MAX; 40], 222, 1), Err(6));
-}
-
-/// "A smoke number not below K has no numbers to search, so it passes here and
-/// meets 7."
-#[test]
-fn unknown_smokes_are_7() {
-    for number in [0, 36, u32::MAX] {
-        for smoke in [2, 3, 8, 255, HUGE] {
-            assert_eq!(answer(&[number; 40], 222, smoke), Err(7));
-            // Numbers beyond the field's are none of a smoke.
-            assert_eq!(answer(&[number; 60], 300, smoke), Err(7));
-        }
-    }
-}
-
-#[test]
-fn surplus_is_left_alone() {
-    // Surplus numbers are not looked at, surplus bytes not written.
-    let field = [field_of(&[1, 2, 3, 4]), vec![u32::MAX; 10]].concat();
-    for bytes in [222, 223, 296, 1000] {
-        assert_eq!(answer(&field, bytes, 0), Ok(222));
-        assert_eq!(answer(&field, bytes, 1), Ok(222));
     }
 }
 

@@ -1,21 +1,24 @@
 //! The map program (request 2026-03): pages in order and without a step, the
 //! program's refusals and limits, and the command itself.
 
-use reference::file::encoded;
-use reference::random_file::{damaged, sound_file, KINDS};
+mod smokes;
+
+use reference::file::{encoded, Mark};
+use reference::random_file::{damaged, sound_file, sound_file_as, KINDS, STORED_KINDS};
 use reference::{map_program, program, Shape};
+use smokes::smoke;
 use std::io::Write;
 use std::process::{Command, Output, Stdio};
 
 /// A file of 2 by 1 with two smokes. The strongest east wind would move the
 /// first smoke out of the west element.
 fn file() -> Vec<u8> {
-    let field = [
-        [7, 7, 7, 7, 7, 7, 7, 7, 7, 5],
-        [0, 0, 0, 0, 0, 0, 0, 0, 0, 0],
+    let first = [[7, 7, 7, 7, 7, 7, 7, 7, 7, 5], [0; 10]];
+    let second = [
         [100, 0, 0, 0, 0, 0, 0, 0, 0, 0],
         [0, 0, 0, 0, 1000, 0, 0, 0, 0, 35],
     ];
+    let field = [first, second].map(|elements| smoke(&elements.concat()));
     let shape = Shape { nx: 2, ny: 1, k: 2 };
     encoded(&field.concat(), &[1024, 1024, 0, 0], shape)
 }
@@ -39,10 +42,13 @@ fn pages_of_all_smokes_without_a_step() {
 
 #[test]
 fn damage_is_refused_as_the_program_refuses_it() {
-    for kind in KINDS {
+    let plum = KINDS.map(|kind| (Mark::Plum, kind));
+    let plu2 = [&KINDS[..], &STORED_KINDS].concat();
+    let plu2 = plu2.into_iter().map(|kind| (Mark::Plu2, kind));
+    for (mark, kind) in plum.into_iter().chain(plu2) {
         for seed in 0..60 {
             let (nx, ny, k) = [(1, 1, 1), (8, 3, 2), (64, 2, 8)][seed as usize % 3];
-            let mut file = sound_file(seed, nx, ny, k).unwrap();
+            let mut file = sound_file_as(mark, seed, nx, ny, k).unwrap();
             damaged(&mut file, Shape { nx, ny, k }, kind, seed).unwrap();
             let refused = map_program::output(&file);
             assert!(refused.starts_with("refused "), "{kind} {refused}");
@@ -56,9 +62,13 @@ fn damage_is_refused_as_the_program_refuses_it() {
 fn a_refusal_stands_alone() {
     let shape = Shape { nx: 2, ny: 1, k: 2 };
     let mut bytes = file();
-    let at = shape.table_offset() - 4;
-    assert_eq!(bytes[at], 35);
-    bytes[at] = 36;
+    let at = shape.table_offset(Mark::Plu2) - 8;
+    assert_eq!(bytes[at..at + 6], [35, 0, 0, 0, 0x07, 0x3f]);
+    // A remainder above 35, with its total 16,136.
+    (bytes[at], bytes[at + 4]) = (36, 0x08);
+    assert_eq!(map_program::output(&bytes), "refused 6\n");
+    // A total that isn't the sum.
+    bytes[at] = 35;
     assert_eq!(map_program::output(&bytes), "refused 6\n");
     // No step is made, but file reading searches the winds.
     let mut bytes = file();

@@ -1,16 +1,35 @@
 //! Random lists of calls: conservation, the ledger, struck calls.
 
+mod named;
 mod random;
 mod shared;
 
+use named::smoke_of;
 use random::{calls, SHAPES};
-use reference::checks::element_mass;
+use reference::checks::{element_mass, smoke_part};
 use reference::lists::{Answer, Call, State};
 use reference::{generator, Shape};
-use shared::{smoke_of, Ledger};
+use shared::Ledger;
 
+/// Every M, smoke by smoke; the stored totals aren't among them.
 fn masses(state: &State) -> Vec<u64> {
-    state.field.chunks_exact(10).map(element_mass).collect()
+    let shape = state.shape().unwrap();
+    let smokes = state.field.chunks(shape.smoke_len());
+    let elements = smokes.flat_map(|part| part.chunks_exact(10));
+    elements.map(element_mass).collect()
+}
+
+/// The stored totals (request 2026-06).
+fn totals(state: &State) -> Vec<u64> {
+    let smokes = state.field.chunks(state.shape().unwrap().smoke_len());
+    smokes
+        .map(|part| u64::from(*part.last().unwrap()))
+        .collect()
+}
+
+fn remainders_are_small(state: &State) -> bool {
+    let mut smokes = state.field.chunks(state.shape().unwrap().smoke_len());
+    smokes.all(|part| part.chunks_exact(10).all(|element| element[9] <= 35))
 }
 
 #[test]
@@ -25,7 +44,7 @@ fn steps_conserve_the_total() {
                 let part = smoke * nx * ny..(smoke + 1) * nx * ny;
                 let sum = |all: &[u64]| all[part.clone()].iter().sum::<u64>();
                 assert_eq!(sum(&before), sum(&after));
-                assert!(state.field.chunks_exact(10).all(|e| e[9] <= 35));
+                assert!(remainders_are_small(&state));
                 steps += 1;
             }
         }
@@ -41,11 +60,27 @@ fn the_ledger_holds_every_mass() {
         for call in calls(1000 + seed as u64, (nx, ny, k)) {
             let answer = state.run(&call);
             ledger.feed(&call, &answer);
-            assert!(ledger
-                .held
-                .iter()
-                .zip(masses(&state))
-                .all(|(&a, b)| a == b as i64));
+            let held = masses(&state).into_iter().map(|m| m as i64);
+            assert!(held.eq(ledger.held.iter().copied()));
+        }
+    }
+}
+
+/// Document 02, 2026-06: "For any list from a fresh field the stored total is
+/// the sum of what the ledger says each element holds."
+#[test]
+fn the_ledgers_sums_are_the_stored_totals() {
+    for (seed, &(nx, ny, k)) in SHAPES.iter().cycle().take(80).enumerate() {
+        let mut ledger = Ledger::new(Shape { nx, ny, k });
+        let mut state = State::new(nx, ny, k);
+        for call in calls(3000 + seed as u64, (nx, ny, k)) {
+            let answer = state.run(&call);
+            ledger.feed(&call, &answer);
+            let sums = ledger.held.chunks(nx * ny).map(|held| held.iter().sum());
+            assert_eq!(
+                totals(&state),
+                sums.map(|sum: i64| sum as u64).collect::<Vec<_>>()
+            );
         }
     }
 }
@@ -64,8 +99,9 @@ fn other_smokes_can_be_struck() {
                     assert_eq!(state.run(call), *answer);
                 }
             }
-            let part = kept * 10 * nx * ny..(kept + 1) * 10 * nx * ny;
-            assert_eq!(state.field[part.clone()], whole.field[part]);
+            let shape = state.shape().unwrap();
+            let part = |state: &State| smoke_part(&state.field, shape, kept).to_vec();
+            assert_eq!(part(&state), part(&whole));
         }
     }
 }
@@ -110,7 +146,7 @@ fn a_list_prints_its_answers() {
                   emission 0 0 0 5\nstep 0\nmass 0 0 0\ntotal 0\ntotal 1\n\
                   withdrawal 0 0 0 258\nload 0 1\n";
     let printed = "accepted\naccepted\naccepted clipped 0\naccepted 63 0 clipped 0\n\
-                   257\n257\nrefused 7\nrefused 10\nrefused 4\nfield 7 7 7 7 7 7 7 7 7 5\nwind 1024 0\n";
+                   257\n257\nrefused 7\nrefused 10\nrefused 4\nfield 7 7 7 7 7 7 7 7 7 5 257\nwind 1024 0\n";
     assert_eq!(reference::lists::output(script).unwrap(), printed);
 }
 
@@ -123,7 +159,7 @@ fn imports_stand_in_scripts() {
                   import\nimport 0 0\n";
     let refused = "accepted\nrefused 5\nrefused 12\nrefused 11\nrefused 11\n";
     let printed = |more: &str| reference::lists::output(&(script.to_string() + more)).unwrap();
-    let field = "field 0 0 0 0 0 0 0 0 0 0\n";
+    let field = "field 0 0 0 0 0 0 0 0 0 0 0\n";
     assert_eq!(printed(""), format!("{refused}{field}wind -1024 1\n"));
     let east = printed("import 2 0 0 0 0 0 0 208 63\n");
     assert_eq!(east, format!("{refused}accepted\n{field}wind 1024 0\n"));

@@ -1,23 +1,25 @@
 //! Writes the sample files and what the reference program prints for each. Usage: samples FOLDER
 
-use reference::file::encoded;
+use compare::content::with_total;
+use reference::file::{encoded, encoded_as};
 use reference::shape::{NODES, PER_ELEMENT};
-use reference::{map_program, program, Shape};
+use reference::{map_program, program, Mark, Shape};
 use std::fs;
 use std::io;
 use std::path::Path;
 
-/// Document 01's case F: one element of nine values 7 and remainder 5, east wind 1024.
+/// Document 01's case F: one element of nine values 7 and remainder 5, east wind 1024. It stays a "PLUM" file.
 fn case_f() -> Vec<u8> {
     let shape = Shape { nx: 1, ny: 1, k: 1 };
-    encoded(&[7, 7, 7, 7, 7, 7, 7, 7, 7, 5], &[1024, 0], shape)
+    let part = with_total(vec![7, 7, 7, 7, 7, 7, 7, 7, 7, 5]);
+    encoded_as(Mark::Plum, &part, &[1024, 0], shape)
 }
 
 /// One element and four smokes, each even, of values 1, 3, 5 and 7, so that no stage changes them: a face amount is C · 36v / 4096, and
 /// with C = ±512 it is ±4.5, ±13.5, ±22.5 and ±31.5 before it is rounded (document 02, 2026-02).
 fn halves() -> Vec<u8> {
     let shape = Shape { nx: 1, ny: 1, k: 4 };
-    let even = |v| [v, v, v, v, v, v, v, v, v, 0];
+    let even = |v| with_total(vec![v, v, v, v, v, v, v, v, v, 0]);
     encoded(
         &[even(1), even(3), even(5), even(7)].concat(),
         &[512, -512],
@@ -31,13 +33,13 @@ fn shear_16x8() -> Vec<u8> {
     let shape = Shape { nx, ny, k: 1 };
     let east = (0..nx * ny).map(|e| 120 * (e / nx) as i16);
     let wind: Vec<i16> = east.chain((0..nx * ny).map(|_| 40)).collect();
-    let mut field = Vec::new();
+    let mut elements = Vec::new();
     for e in 0..nx * ny {
         let (west, south) = (2 * (e % nx) as i64, 2 * (e / nx) as i64);
         let values = (0..NODES as i64).map(|n| hill(west + n % 3, south + n / 3));
-        field.extend(values.chain([0]));
+        elements.extend(values.chain([0]));
     }
-    encoded(&field, &wind, shape)
+    encoded(&with_total(elements), &wind, shape)
 }
 
 /// A round hill about node (9, 7) of the grid of all nodes, 0 where it ends.
@@ -61,9 +63,9 @@ fn two_smokes() -> Vec<u8> {
         [0, 0, 40, 0, 0, 20, 0, 0, 2, 34],
         [0, 0, 0, 0, 0, 0, 0, 0, 0, 0],
     ];
-    let mut field = first.concat();
-    field.resize(shape.field_len(), 0);
-    field[shape.place(1, 1, 1) + 8] = 1_000_000;
+    let mut second = vec![0; shape.elements_len()];
+    second[shape.place(0, 1, 1) + 8] = 1_000_000;
+    let field = [with_total(first.concat()), with_total(second)].concat();
     encoded(&field, &wind, shape)
 }
 

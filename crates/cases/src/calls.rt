@@ -63,7 +63,7 @@ impl<'a, P: Print> Case<'a, P> {
         Case { rt, edge, shape }
     }
 
-    pub(crate) fn apply(&self, before: [u32; 59], place: Place, change: Change) -> io::Result<()> {
+    pub(crate) fn apply(&self, before: [u32; 62], place: Place, change: Change) -> io::Result<()> {
         let Case { rt, edge, shape } = *self;
         let mut after = before;
         let answer = change.call(&mut after, shape, place);
@@ -77,7 +77,7 @@ impl<'a, P: Print> Case<'a, P> {
     }
 
     // The calls on an element, with 5 as the amount.
-    pub(crate) fn on_element(&self, field: [u32; 59], place: Place) -> io::Result<()> {
+    pub(crate) fn on_element(&self, field: [u32; 62], place: Place) -> io::Result<()> {
         self.apply(field, place, Change::Emission(5))?;
         self.apply(field, place, Change::Withdrawal(5))?;
         self.mass(field, place)
@@ -103,7 +103,7 @@ impl<'a, P: Print> Case<'a, P> {
         println!(rt; "import, {edge}: {answer}{left}")
     }
 
-    pub(crate) fn fresh(&self, before: [u32; 59], winds_before: [i16; 5]) -> io::Result<()> {
+    pub(crate) fn fresh(&self, before: [u32; 62], winds_before: [i16; 5]) -> io::Result<()> {
         let Case { rt, edge, shape } = *self;
         let mut after = before;
         let mut winds_after = winds_before;
@@ -123,7 +123,7 @@ impl<'a, P: Print> Case<'a, P> {
 
     pub(crate) fn load(
         &self,
-        before: [u32; 59],
+        before: [u32; 62],
         numbers: [u32; 26],
         tracer: usize,
     ) -> io::Result<()> {
@@ -139,13 +139,13 @@ impl<'a, P: Print> Case<'a, P> {
         println!(rt; "load, {edge}: {answer}{left}")
     }
 
-    pub(crate) fn mass(&self, numbers: [u32; 59], place: Place) -> io::Result<()> {
+    pub(crate) fn mass(&self, numbers: [u32; 62], place: Place) -> io::Result<()> {
         let Case { rt, edge, shape } = *self;
         let answer = Answer(mass_at(&numbers, shape, place));
         println!(rt; "mass, {edge}: {answer}")
     }
 
-    pub(crate) fn total(&self, numbers: [u32; 59], tracer: usize) -> io::Result<()> {
+    pub(crate) fn total(&self, numbers: [u32; 62], tracer: usize) -> io::Result<()> {
         let Case { rt, edge, shape } = *self;
         let answer = Answer(field::total(&numbers, shape, tracer));
         println!(rt; "total, {edge}: {answer}")

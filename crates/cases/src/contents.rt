@@ -13,10 +13,11 @@ pub(crate) fn run(rt: &impl Print) -> io::Result<()> {
     grid_winds(rt)
 }
 
-// The ten numbers are 5 in an element of mass 185: 180 in its values, and its remainder.
+// The ten numbers are 5 in an element of mass 185: 180 in its values, and its remainder. The total comes after them.
 fn elements(rt: &impl Print) -> io::Result<()> {
-    let empty = [0u32; 10];
-    let fives = [5u32; 10];
+    let empty = [0u32; 11];
+    let mut fives = [5u32; 11];
+    fives[10] = 185;
     for (edge, before, change) in [
         ("35 into an empty element", empty, Change::Emission(35)),
         ("36 into an empty element", empty, Change::Emission(36)),
@@ -34,8 +35,8 @@ fn elements(rt: &impl Print) -> io::Result<()> {
     Ok(())
 }
 
-// A change of the only element of a field, and its ten numbers.
-fn element(rt: &impl Print, edge: &str, before: [u32; 10], change: Change) -> io::Result<()> {
+// A change of the only element of a field, its ten numbers and the total.
+fn element(rt: &impl Print, edge: &str, before: [u32; 11], change: Change) -> io::Result<()> {
     let mut element = before;
     let answer = change.call(&mut element, calls::shape(1, 1, 1), calls::at(0, 0, 0));
     println!(rt; "{change}, {edge}: {answer}, element{}", Numbers(&element))
@@ -43,9 +44,9 @@ fn element(rt: &impl Print, edge: &str, before: [u32; 10], change: Change) -> io
 
 // A load over elements that have remainders; field and loaded numbers have one surplus number each.
 fn loaded(rt: &impl Print) -> io::Result<()> {
-    let mut lent = [3u32; 41];
+    let mut lent = [3u32; 43];
     let mut numbers = [2u32; 19];
-    lent[40] = 777;
+    lent[42] = 777;
     numbers[18] = 55;
     let answer = show::outcome(field::load(&mut lent, &numbers, buffers::pair(), 0));
     let edge = "one surplus number, over remainders 3";
@@ -54,9 +55,9 @@ fn loaded(rt: &impl Print) -> io::Result<()> {
 
 // Fresh, with one surplus number in each buffer.
 fn cleared(rt: &impl Print) -> io::Result<()> {
-    let mut lent = [3u32; 41];
+    let mut lent = [3u32; 43];
     let mut winds = buffers::winds();
-    lent[40] = 777;
+    lent[42] = 777;
     let answer = show::outcome(field::fresh(&mut lent, &mut winds, buffers::pair()));
     let field = Numbers(&lent);
     let winds = Numbers(&winds);
@@ -74,11 +75,14 @@ fn grids(rt: &impl Print) -> io::Result<()> {
         ("3 by 1, element (2, 0)", calls::shape(3, 1, 1), 2, 0),
         ("3 by 1, element (0, 2)", calls::shape(3, 1, 1), 0, 2),
     ] {
-        let sample = buffers::sample();
+        let field = match (shape.nx, shape.ny) {
+            (1, 1) => buffers::one_element(),
+            _ => buffers::three(),
+        };
         let place = calls::at(0, i, j);
         let case = Case::new(rt, edge, shape);
-        case.mass(sample, place)?;
-        case.apply(sample, place, Change::Emission(5))?;
+        case.mass(field, place)?;
+        case.apply(field, place, Change::Emission(5))?;
     }
     Ok(())
 }

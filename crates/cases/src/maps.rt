@@ -11,7 +11,7 @@ pub(crate) fn run(rt: &impl Print) -> io::Result<()> {
     pages(rt)?;
     refusals(rt)?;
     tracers(rt)?;
-    over_limit(rt)
+    totals(rt)
 }
 
 // A map's answer, and its page.
@@ -32,9 +32,17 @@ fn map(
     println!(rt; "")
 }
 
-// Masses 1, 2, .. in the remainders, and all that is left to 100,000,000 in the last of eight elements.
-fn row() -> [u32; 80] {
-    let mut field = [0u32; 80];
+// One element that holds 1.
+fn one() -> [u32; 88] {
+    let mut field = [0u32; 88];
+    field[9] = 1;
+    field[10] = 1;
+    field
+}
+
+// Masses 1 to 7 in the remainders.
+fn seven() -> [u32; 88] {
+    let mut field = [0u32; 88];
     field[9] = 1;
     field[19] = 2;
     field[29] = 3;
@@ -42,22 +50,43 @@ fn row() -> [u32; 80] {
     field[49] = 5;
     field[59] = 6;
     field[69] = 7;
+    field[70] = 28;
+    field
+}
+
+// And all that is left to 100,000,000 in the last of eight elements.
+fn eight() -> [u32; 88] {
+    let mut field = seven();
     field[70] = 99_999_972;
+    field[80] = 100_000_000;
+    field
+}
+
+// The same in the one element of tracer 7.
+fn eighth_tracer() -> [u32; 88] {
+    let mut field = [0u32; 88];
+    field[77] = 99_999_972;
+    field[87] = 99_999_972;
     field
 }
 
 // One column, a whole block, one column more, rows from the north on, and a page with surplus.
 fn pages(rt: &impl Print) -> io::Result<()> {
-    let row = row();
-    for (edge, length, shape, tracer) in [
-        ("1 by 1", 222, calls::shape(1, 1, 1), 0),
-        ("7 by 1", 222, calls::shape(7, 1, 1), 0),
-        ("8 by 1", 370, calls::shape(8, 1, 1), 0),
-        ("2 by 4", 444, calls::shape(2, 4, 1), 0),
-        ("1 by 1, tracer 7", 225, calls::shape(1, 1, 8), 7),
+    for (edge, length, field, shape, tracer) in [
+        ("1 by 1", 222, one(), calls::shape(1, 1, 1), 0),
+        ("7 by 1", 222, seven(), calls::shape(7, 1, 1), 0),
+        ("8 by 1", 370, eight(), calls::shape(8, 1, 1), 0),
+        ("2 by 4", 444, eight(), calls::shape(2, 4, 1), 0),
+        (
+            "1 by 1, tracer 7",
+            225,
+            eighth_tracer(),
+            calls::shape(1, 1, 8),
+            7,
+        ),
     ] {
         let mut page = [UNWRITTEN; 444];
-        map(rt, edge, &mut page[..length], &row, shape, tracer)?;
+        map(rt, edge, &mut page[..length], &field, shape, tracer)?;
     }
     Ok(())
 }
@@ -68,7 +97,7 @@ fn refusals(rt: &impl Print) -> io::Result<()> {
     for (edge, shape) in [
         ("nx 0", calls::shape(0, 1, 2)),
         ("ny 65", calls::shape(2, 65, 2)),
-        ("59 numbers for 60", buffers::three_tracers()),
+        ("62 numbers for 63", buffers::three_tracers()),
         ("64 by 64, 8 tracers", calls::shape(64, 64, 8)),
     ] {
         map(rt, edge, &mut [UNWRITTEN; 222], &sample, shape, 0)?;
@@ -98,9 +127,15 @@ fn short(rt: &impl Print, edge: &str, tracer: usize) -> io::Result<()> {
     map(rt, edge, &mut [UNWRITTEN; 221], &odd, pair, tracer)
 }
 
-fn over_limit(rt: &impl Print) -> io::Result<()> {
-    let over = buffers::total_of(17);
+// A sum above the limit, and one that is not the stored total.
+fn totals(rt: &impl Print) -> io::Result<()> {
     let pair = buffers::pair();
-    let edge = "a total of 100000001";
-    map(rt, edge, &mut [UNWRITTEN; 222], &over, pair, 0)
+    for (edge, field) in [
+        ("a total of 100000001", buffers::total_of(17)),
+        ("118 stored of 119", buffers::stored(118)),
+        ("120 stored of 119", buffers::stored(120)),
+    ] {
+        map(rt, edge, &mut [UNWRITTEN; 222], &field, pair, 0)?;
+    }
+    Ok(())
 }

@@ -12,7 +12,7 @@ pub(crate) fn run(rt: &impl Print) -> io::Result<()> {
     amounts(rt)
 }
 
-// An unsound tracer 0, and no such tracer or element.
+// An unsound tracer 0, and no such tracer.
 fn unsound(rt: &impl Print) -> io::Result<()> {
     let odd = buffers::remainder_36();
     let shape = buffers::pair();
@@ -20,9 +20,10 @@ fn unsound(rt: &impl Print) -> io::Result<()> {
     let case = Case::new(rt, "remainder 36, tracer 2", shape);
     case.on_element(odd, place)?;
     case.total(odd, 2)?;
-    let place = calls::at(0, 2, 0);
-    let case = Case::new(rt, "remainder 36, element (2, 0)", shape);
-    case.on_element(odd, place)
+    let over = buffers::total_of(17);
+    let case = Case::new(rt, "a stored total of 100000001, tracer 2", shape);
+    case.on_element(over, place)?;
+    case.total(over, 2)
 }
 
 // Tracer 0 is unsound, and the call is on tracer 1 or is a load.
@@ -73,8 +74,8 @@ fn amounts(rt: &impl Print) -> io::Result<()> {
     let off = calls::at(0, 2, 0);
     let lost = calls::at(3, 2, 0);
     let five = Change::Emission(5);
-    Case::new(rt, "59 numbers for 60, remainder 36", short).apply(odd, off, five)?;
-    Case::new(rt, "59 numbers for 60, tracer 3", short).apply(sample, lost, five)?;
+    Case::new(rt, "62 numbers for 63, remainder 36", short).apply(odd, off, five)?;
+    Case::new(rt, "62 numbers for 63, tracer 3", short).apply(sample, lost, five)?;
     Case::new(rt, "tracer 3, element (2, 0)", shape).apply(sample, lost, five)?;
     let case = Case::new(rt, "element (2, 0), u64 maximum", shape);
     case.apply(sample, off, Change::Emission(u64::MAX))?;

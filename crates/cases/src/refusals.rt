@@ -8,12 +8,13 @@ pub(crate) fn run(rt: &impl Print) -> io::Result<()> {
     shapes(rt)?;
     short_buffers(rt)?;
     unsound_tracers(rt)?;
+    sums_and_stored_totals(rt)?;
     tracers(rt)?;
     elements(rt)
 }
 
 // The calls on an element and on a tracer, at a tracer and its first element.
-fn on_first_element(case: &Case<impl Print>, field: [u32; 59], tracer: usize) -> io::Result<()> {
+fn on_first_element(case: &Case<impl Print>, field: [u32; 62], tracer: usize) -> io::Result<()> {
     case.on_element(field, calls::at(tracer, 0, 0))?;
     case.total(field, tracer)
 }
@@ -56,29 +57,52 @@ fn short_buffers(rt: &impl Print) -> io::Result<()> {
     let elements = buffers::three_elements();
     let face = calls::face(Way::East, 0, 0, 5);
     Case::new(rt, "5 winds for 6", elements).wind(winds, face)?;
-    Case::new(rt, "59 numbers for 60", tracers).fresh(sample, winds)?;
+    Case::new(rt, "62 numbers for 63", tracers).fresh(sample, winds)?;
     Case::new(rt, "5 winds for 6", elements).fresh(sample, winds)?;
-    Case::new(rt, "59 numbers for 60", tracers).load(sample, numbers, 0)?;
+    Case::new(rt, "62 numbers for 63", tracers).load(sample, numbers, 0)?;
     Case::new(rt, "26 loaded for 27", elements).load(sample, numbers, 0)?;
-    on_first_element(&Case::new(rt, "59 numbers for 60", tracers), sample, 0)
+    on_first_element(&Case::new(rt, "62 numbers for 63", tracers), sample, 0)
 }
 
-// 6: a remainder above 35, or a total above the limit.
+// 6: the named element's remainder above 35, a stored total above the limit, or an element that holds more.
 fn unsound_tracers(rt: &impl Print) -> io::Result<()> {
     let pair = buffers::pair();
-    let place = calls::at(0, 0, 0);
+    let first = calls::at(0, 0, 0);
+    let second = calls::at(0, 1, 0);
+    let off = calls::at(0, 2, 0);
     let odd = buffers::remainder_36();
-    let odd_case = Case::new(rt, "remainder 36", pair);
     let over = buffers::total_of(17);
-    let over_case = Case::new(rt, "a total of 100000001", pair);
-    for change in [Change::Emission(5), Change::Withdrawal(5)] {
-        odd_case.apply(odd, place, change)?;
-        over_case.apply(over, place, change)?;
+    let less = buffers::stored(76);
+    for (edge, field, place) in [
+        ("remainder 36", odd, second),
+        ("remainder 36 in the other element", odd, first),
+        ("remainder 36, element (2, 0)", odd, off),
+        ("a stored total of 100000001", over, second),
+        ("a stored total of 100000001, element (2, 0)", over, off),
+        ("77 of a stored total of 76", less, first),
+        ("42 of a stored total of 76", less, second),
+        ("a stored total of 76, element (2, 0)", less, off),
+    ] {
+        Case::new(rt, edge, pair).on_element(field, place)?;
     }
-    odd_case.mass(odd, place)?;
-    over_case.mass(over, place)?;
-    odd_case.total(odd, 0)?;
-    over_case.total(over, 0)
+    Case::new(rt, "remainder 36", pair).total(odd, 0)?;
+    Case::new(rt, "100000001", pair).total(over, 0)?;
+    Case::new(rt, "76 stored of 119", pair).total(less, 0)
+}
+
+// A stored total that is not the sum: only the stored one counts for 9, and nothing else is refused.
+fn sums_and_stored_totals(rt: &impl Print) -> io::Result<()> {
+    let pair = buffers::pair();
+    let place = calls::at(0, 0, 0);
+    let more = buffers::stored(99_999_990);
+    let case = Case::new(rt, "99999990 stored of 119", pair);
+    case.on_element(more, place)?;
+    case.total(more, 0)?;
+    case.load(more, buffers::numbers(), 0)?;
+    for (edge, q) in [("10 to 99999990 stored", 10), ("11 to 99999990 stored", 11)] {
+        Case::new(rt, edge, pair).apply(more, place, Change::Emission(q))?;
+    }
+    Ok(())
 }
 
 // 7: no such tracer; after one that is there.

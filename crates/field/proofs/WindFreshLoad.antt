@@ -1,21 +1,25 @@
 -- Which tests lead to which answer of wind, fresh and load, and what the buffers are after it.
-use mathlib.Core.Path.{◌≡◌, refl, sym, subst, ◌∙◌}
+use mathlib.Core.Path.{◌≡◌, refl, ap, subst, ◌∙◌}
 use mathlib.Core.Bool.{true, false}
-use mathlib.Core.List.{List, ◌++◌}
-use Prim.Native.Nat.{ℕ, ◌*◌, ◌≤◌, ◌<◌}
+use mathlib.Core.List.{List, [], ◌∷◌, ◌++◌}
+use Prim.Native.Nat.{ℕ, ◌+◌, ◌-◌, ◌*◌, ◌≤◌, ◌<◌}
+use native.Mathlib.Omega.{arith}
 use borrow.Author.Tests.{lt-leb, le-leb, lt-ltb, le-ltb}
 use lib.IntN.{ℤ, pos}
 use lib.ListN.{length, set, replicate, take, drop}
 use Rattle.whole.specs.Sum.{sum}
 use Rattle.whole.specs.Table.{blocks, overwrite}
 use Rattle.whole.proofs.SumLaws.{sum-cong}
+use Rattle.whole.proofs.OverwriteLaws.{length-overwrite, set-is}
+use Rattle.whole.proofs.ListParts.{overwrite-next}
 use Rattle.rules.specs.declared.Shape.{Shape}
 use Rattle.rules.specs.declared.Face.{Face}
 use Rattle.rules.specs.Answers.{Answer, accepted, refused, answer, after, mapped, plain}
-use Rattle.rules.specs.Field.{quadratic, admitted, elements, faces, on_grid, part_length, field_length, with_part, weighted, mass, total, limit, elements_length, wind_in_range}
+use Rattle.rules.specs.Field.{quadratic, admitted, elements, faces, on_grid, part_length, field_length, with_part, part_of, weighted, mass, total, limit, elements_length, wind_in_range}
 use Rattle.rules.specs.Grid.{face_index}
 use Rattle.rules.specs.Calls.{one_face, wind_reply, new_wind, wind_after, fresh_reply, fresh_field, fresh_wind, zero_field, zero_wind, load, loaded, loaded_element, loaded_value, lent_enough, checks, done, call}
-use Rattle.rules.proofs.PartLaws.{mass-loaded, length-loaded, part-is-elements}
+use Rattle.rules.proofs.PartLaws.{length-loaded-element}
+use Rattle.rules.proofs.StoredLaws.{length-all, total-made, mass-loaded}
 
 -- ---- wind
 module _ (g : Shape) (f : Face) (w : List ℤ) where
@@ -81,9 +85,13 @@ module _ (g : Shape) (numbers : List ℕ) where
   unfolding total
   load-total = sum-cong (elements g) (mass quadratic (loaded quadratic g numbers)) (λ e. weighted quadratic (loaded_value quadratic numbers e)) (mass-loaded quadratic g numbers)
 
-  loaded-is : blocks (elements g) (loaded_element quadratic numbers) ≡ loaded quadratic g numbers
-  unfolding loaded
-  loaded-is = refl
+  -- the elements' numbers and their sum, one behind the other
+  loaded-is : (p : List ℕ) (t : ℕ) → p ≡ blocks (elements g) (loaded_element quadratic numbers) → t ≡ total quadratic g (loaded quadratic g numbers) → p ++ (t ∷ []) ≡ loaded quadratic g numbers
+  unfolding loaded part_of
+  loaded-is p t hp ht =
+      let all = blocks (elements g) (loaded_element quadratic numbers) in
+      let same : t ≡ total quadratic g all = ht ∙ total-made quadratic g (loaded_element quadratic numbers) (total quadratic g all) (length-loaded-element quadratic numbers) in
+      λ i. hp i ++ (same i ∷ [])
 
 module _ (g : Shape) (s : ℕ) (numbers field : List ℕ) where
   abbrev Loaded : Answer (Unit {0}) → List ℕ → Type 0
@@ -115,8 +123,22 @@ module _ (g : Shape) (s : ℕ) (numbers field : List ℕ) where
   unfolding call lent_enough checks done quadratic answer after mapped
   load-done a l k t m = rw (a, le-leb (field_length quadratic g) (length field) l, le-leb (elements g * 9) (length numbers) k, lt-ltb s g.tracers t, le-leb (total quadratic g (loaded quadratic g numbers)) limit m) (refl, refl)
 
-  -- the part that was lent and written, back in its place
-  pub load-back : (at k : ℕ) (p : List ℕ) → at ≡ s * part_length quadratic g → k ≡ elements_length quadratic g → p ≡ blocks (elements g) (loaded_element quadratic numbers)
-      → take at field ++ (p ++ drop k (drop at field)) ≡ with_part quadratic g s (loaded quadratic g numbers) field
-  unfolding with_part overwrite
-  load-back at k p ha hk hp = rw (ha, hk ∙ sym (part-is-elements quadratic g) ∙ sym (length-loaded quadratic g numbers), hp ∙ loaded-is g numbers)
+  -- the elements that were lent and written, back in their place, which ends where the stored total stands
+  module _ (at end : ℕ) (p : List ℕ) (starts : at ≡ s * part_length quadratic g) (ends : end ≡ s * part_length quadratic g + elements_length quadratic g) (made : p ≡ blocks (elements g) (loaded_element quadratic numbers)) (room : end < length field) where
+    width : at + length p ≡ end
+    width = omega (arith, starts, ends, ap length made ∙ length-all quadratic g (loaded_element quadratic numbers) 0 (length-loaded-element quadratic numbers))
+
+    written : take at field ++ (p ++ drop (end - at) (drop at field)) ≡ overwrite at p field
+    unfolding overwrite
+    written = let k : end - at ≡ length p = omega (arith, width) in ap (λ n. take at field ++ (p ++ drop n (drop at field))) k
+
+    long : length (take at field ++ (p ++ drop (end - at) (drop at field))) ≡ length field
+    long = ap length written ∙ length-overwrite at p field (omega (arith, width, room))
+
+    -- and their sum behind them
+    pub load-back : (t : ℕ) → t ≡ total quadratic g (loaded quadratic g numbers) → set (take at field ++ (p ++ drop (end - at) (drop at field))) end t ≡ with_part quadratic g s (loaded quadratic g numbers) field
+    unfolding with_part
+    load-back t sum_is =
+        set-is end t (take at field ++ (p ++ drop (end - at) (drop at field))) (omega (arith, long, room)) ∙ ap (overwrite end (t ∷ [])) written
+        ∙ overwrite-next at end p (t ∷ []) field width (omega (arith, room))
+        ∙ (λ i. overwrite (starts i) (loaded-is g numbers p t made sum_is i) field)

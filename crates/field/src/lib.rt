@@ -14,11 +14,12 @@ use field_search::LIMIT;
 use rules::element::{NODES, NUMBERS};
 use rules::{Face, Refusal, Shape};
 
-mod readings; // readings.rt: an element's mass, a tracer's total
+mod readings; // readings.rt: an element's mass, a tracer's total and its sum
 
-pub use readings::{element_mass, mass, mass_on, total, total_on};
+pub use readings::{element_mass, mass, sum_on, total, total_on};
 
-// Emission of q into element (i, j) of a tracer. The clipped mass is answered.
+// Emission of q into element (i, j) of a tracer. The clipped mass is answered. Here and below `as` loses nothing, as is proved: no total is above the
+// limit, and a `try_from` would want an `unwrap` that never fails.
 pub fn emission(
     field: &mut [u32],
     shape: Shape,
@@ -30,16 +31,15 @@ pub fn emission(
     ensures { CallGives quadratic shape tracer (emission i j q) field.old (answers result) field.new }
 {
     let grid = Grid::try_from(shape)?;
-    let sum = total_on(field, grid, tracer)?;
-    if !field_layout::on_grid(grid.shape, i, j) {
-        return Err(Refusal::NoSuchElement);
-    }
-    if LIMIT - sum < q {
+    let named = readings::mass_and_total(field, grid, tracer, i, j)?;
+    if LIMIT - named.total < q {
         return Err(Refusal::TotalAboveLimit);
     }
     let start = grid.element_start(tracer, i, j);
     let end = start + NUMBERS;
-    Ok(element::emit(&mut field[start..end], q))
+    let clipped = element::emit(&mut field[start..end], q);
+    field[grid.total_at(tracer)] = (named.total + q) as u32;
+    Ok(clipped)
 }
 
 // Withdrawal of q from element (i, j) of a tracer. The clipped mass is answered.
@@ -54,16 +54,18 @@ pub fn withdrawal(
     ensures { CallGives quadratic shape tracer (withdrawal i j q) field.old (answers result) field.new }
 {
     let grid = Grid::try_from(shape)?;
-    let held = mass_on(field, grid, tracer, i, j)?;
-    if held < q {
+    let named = readings::mass_and_total(field, grid, tracer, i, j)?;
+    if named.mass < q {
         return Err(Refusal::MassTooSmall);
     }
     let start = grid.element_start(tracer, i, j);
     let end = start + NUMBERS;
-    Ok(element::withdraw(&mut field[start..end], q))
+    let clipped = element::withdraw(&mut field[start..end], q);
+    field[grid.total_at(tracer)] = (named.total - q) as u32;
+    Ok(clipped)
 }
 
-// Load: nine numbers for each element of a tracer; every element is replaced.
+// Load: nine numbers for each element of a tracer; every element is replaced, and the stored total is their sum.
 pub fn load(field: &mut [u32], numbers: &[u32], shape: Shape, tracer: usize) -> Result<(), Refusal>
     ensures { CallGives quadratic shape tracer (load numbers.now) field.old (answers result) field.new }
 {
@@ -78,12 +80,14 @@ pub fn load(field: &mut [u32], numbers: &[u32], shape: Shape, tracer: usize) -> 
     if grid.shape.tracers <= tracer {
         return Err(Refusal::NoSuchTracer);
     }
-    if LIMIT < fill::loaded_total(numbers, n) {
+    let total = fill::loaded_total(numbers, n);
+    if LIMIT < total {
         return Err(Refusal::TotalAboveLimit);
     }
     let start = grid.tracer_start(tracer);
-    let end = start + grid.elements_length();
+    let end = grid.total_at(tracer);
     fill::lay(&mut field[start..end], numbers, n);
+    field[end] = total as u32;
     Ok(())
 }
 

@@ -2,4 +2,4 @@
 #![tactic(auto)]
 
 pub mod element; // element.rt: one element's ten numbers
-pub mod fill; // fill.rt: a load
+pub mod fill; // fill.rt: what many elements hold, and a load

@@ -10,7 +10,6 @@ use Rattle.rules.specs.declared.Shape.{Shape}
 use Rattle.rules.specs.Field.{quadratic, admitted, elements, element, element_length, part_length, field_length, Admitted, elements_length}
 use Rattle.rules.proofs.GridLaws.{element-lt}
 use Rattle.rules.proofs.ShapeLaws.{elements-le}
-use Rattle.rules.proofs.PartLaws.{part-is-elements}
 use Rattle.field_layout.specs.Places.{Inside, element_start, most_part, most_field}
 
 pub ten : element_length quadratic ≡ 10
@@ -22,12 +21,13 @@ module _ (g : Shape) where
   unfolding elements_length
   elements-are = ap (λ n. elements g * n) ten
 
-  -- a tracer's elements are within its part
-  pub elements-within : elements_length quadratic g ≤ part_length quadratic g
-  elements-within = omega (arith, part-is-elements quadratic g)
+  -- a tracer's part is its elements and one number more
+  pub part-is-more : part_length quadratic g ≡ elements_length quadratic g + 1
+  unfolding part_length
+  part-is-more = refl
 
-  pub part-is : part_length quadratic g ≡ elements g * 10
-  part-is = part-is-elements quadratic g ∙ elements-are
+  pub part-is : part_length quadratic g ≡ elements g * 10 + 1
+  part-is = part-is-more ∙ ap (λ n. n + 1) elements-are
 
   pub field_is : field_length quadratic g ≡ g.tracers * part_length quadratic g
   unfolding field_length
@@ -50,6 +50,10 @@ module _ (g : Shape) where
 
   pub start-le : (s : ℕ) → Admitted g → s < g.tracers → s * part_length quadratic g ≤ most_field
   start-le s z h = omega (arith, tracer-room s h, field_is, field-le z)
+
+  -- its stored total stands within the field
+  pub total-room : (s : ℕ) → s < g.tracers → s * part_length quadratic g + elements_length quadratic g < field_length quadratic g
+  total-room s h = omega (arith, tracer-room s h, part-is-more)
 
   -- an element's numbers end within the field
   pub element-room : (s i j : ℕ) → Inside g s i j → element_start g s i j + 10 ≤ field_length quadratic g

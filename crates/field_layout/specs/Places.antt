@@ -16,7 +16,7 @@ element_start g s i j = s * part_length quadratic g + element g i j * element_le
 
 -- the numbers of an admitted tracer's part and of an admitted field, at most
 abbrev pub most_part : ℕ
-most_part = 10 * most_elements
+most_part = 10 * most_elements + 1
 
 abbrev pub most_field : ℕ
 most_field = 8 * most_part

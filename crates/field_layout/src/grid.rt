@@ -55,11 +55,11 @@ impl Grid {
         self.elements() * NUMBERS
     }
 
-    // The numbers of a tracer's part of the field: those of its elements.
+    // The numbers of a tracer's part of the field: those of its elements, and its stored total.
     pub fn part_length(self) -> usize
         ensures { result ≡ part_length quadratic self.shape }
     {
-        self.elements_length()
+        self.elements_length() + 1
     }
 
     // The numbers of the field.
@@ -75,6 +75,15 @@ impl Grid {
         ensures { result ≡ tracer * part_length quadratic self.shape }
     {
         tracer * self.part_length()
+    }
+
+    // Where a tracer's stored total stands in the field: after its elements.
+    pub fn total_at(self, tracer: usize) -> usize
+        requires { tracer < self.shape.tracers }
+        ensures place { result ≡ tracer * part_length quadratic self.shape + elements_length quadratic self.shape }
+        ensures room { result < field_length quadratic self.shape }
+    {
+        self.tracer_start(tracer) + self.elements_length()
     }
 
     // Where element (i, j) of a tracer starts in the field; its numbers end within the field.

@@ -2,12 +2,12 @@
 -- loop keeps, and what every way out says; a break is one of every longer part, because masses only add.
 use mathlib.Core.Path.{◌≡◌, refl, sym, ap, subst, ◌∙◌}
 use mathlib.Core.Bool.{Bool, true, false, ◌&&◌, ◌||◌, cond}
-use mathlib.Core.List.{List}
-use mathlib.Core.Logic.{◌⊎◌, inl, inr, ⊎_elim}
+use mathlib.Core.List.{List, [], ◌∷◌}
+use mathlib.Core.Logic.{◌⊎◌, inl, inr, ⊎_elim, ◌≢◌}
 use Prim.Native.Nat.{ℕ, ◌+◌, ◌*◌, ◌≤◌, ◌<◌}
 use native.Mathlib.Nat.{zero-mul}
 use native.Mathlib.Omega.{arith}
-use borrow.Author.Tests.{lt-leb, le-leb, lt-ltb, le-ltb, ltb-true, ltb-false, eqb-true, eq-eqb}
+use borrow.Author.Tests.{lt-leb, le-leb, lt-ltb, le-ltb, ltb-true, ltb-false, eqb-true, eq-eqb, ne_eqb}
 use lib.Dec.{eqb, ltb}
 use lib.ListN.{get_or}
 use Rattle.whole.specs.Sum.{sum, all}
@@ -16,15 +16,15 @@ use Rattle.whole.proofs.SumLaws.{sum_more, sum_mono, all_more, all-fails}
 use Rattle.rules.specs.declared.Shape.{Shape}
 use Rattle.std.specs.Prelude.{Result, Ok, Err, is_ok}
 use Rattle.rules.specs.declared.Refusal.{Refusal}
-use Rattle.rules.specs.Answers.{accepted, refused, answer, answered, number}
-use Rattle.rules.specs.Field.{quadratic, elements, element_length, elements_length, weight_sum, cell, remainder, mass, total, limit, sound, Admitted}
+use Rattle.rules.specs.Answers.{accepted, refused, check, answer, answered, number}
+use Rattle.rules.specs.Field.{quadratic, elements, element_length, elements_length, weight_sum, cell, remainder, mass, total, limit, sum_sound, sound, stored_total, Admitted}
 use Rattle.rules.specs.Sizes.{most_elements}
 use Rattle.rules.proofs.QuadraticLaws.{weights-36}
 use Rattle.rules.proofs.ShapeLaws.{elements-le}
 use Rattle.field_layout.proofs.PlaceLaws.{elements-are}
 use Rattle.field_elements.specs.Weighing.{number_weight, weighed}
 use Rattle.field_elements.proofs.ElementLaws.{mass-ten, weighed-more}
-use Rattle.field_search.specs.Search.{breaks, searched}
+use Rattle.field_search.specs.Search.{breaks, searched, compared}
 
 -- ---- the two breaks
 module _ (v x t : ℕ) where
@@ -124,8 +124,8 @@ module _ (g : Shape) {p : List ℕ} {n start s : ℕ} {b : Bool} (h : BetweenEle
   numbers-room a q = (omega (arith, h.place, elements-are g), omega (arith, h.place, elements-le g a))
 
   -- every element is passed
-  pub sound-all : n ≡ elements g → sound quadratic g p ≡ true
-  unfolding sound total sound_to total_to
+  pub sound-all : n ≡ elements g → sum_sound quadratic g p ≡ true
+  unfolding sum_sound total sound_to total_to
   sound-all e = rw (← e, h.remainders, ← h.masses, le-leb s limit h.small)
 
   pub total-all : n ≡ elements g → total quadratic g p ≡ s
@@ -134,42 +134,68 @@ module _ (g : Shape) {p : List ℕ} {n start s : ℕ} {b : Bool} (h : BetweenEle
 
   -- a number is a break
   pub broken : {v t w x : ℕ} {d : Bool} → n < elements g → WithinElement p n start v t d → v < 10 → w ≡ number_weight quadratic v → x ≡ get_or p (start + v) 0
-      → breaks v x (t + w * x) ≡ true → sound quadratic g p ≡ false
-  unfolding sound total total_to sound_to weighed
+      → breaks v x (t + w * x) ≡ true → sum_sound quadratic g p ≡ false
+  unfolding sum_sound total total_to sound_to weighed
   broken {v} {t} {w} {x} r k l e q y = ⊎_elim (λ z. remainder-breaks z.0 z.1) (λ z. total-breaks z) (break-is v x (t + w * x) y)
     where
-      remainder-breaks : v ≡ 9 → 35 < x → sound quadratic g p ≡ false
+      remainder-breaks : v ≡ 9 → 35 < x → sum_sound quadratic g p ≡ false
       remainder-breaks c d = let at : get_or p (n * 10 + 9) 0 ≡ x = rw (← h.place, ← c) (sym q) in
           rw (all-fails (elements g) (λ e. ltb (remainder quadratic p e) (weight_sum quadratic)) n r (rw (remainder_is p n, weights-36, at) (le-ltb x 36 d)))
 
-      total-breaks : limit < t + w * x → sound quadratic g p ≡ false
+      total-breaks : limit < t + w * x → sum_sound quadratic g p ≡ false
       total-breaks c =
           let here : total_to p n + weighed quadratic p start (v + 1) ≡ t + w * x = rw (weighed-more quadratic p start v, ← e, ← q) (omega (arith, k.masses)) in
           let more : weighed quadratic p start (v + 1) ≤ weighed quadratic p start 10 = sum_mono (λ v. number_weight quadratic v * get_or p (start + v) 0) (v + 1) 10 (omega arith) in
           let all = rw (← h.place) at (total-more p n) in
           rw (lt-leb (total quadratic g p) limit (omega (arith, sum_mono (mass quadratic p) (n + 1) (elements g) (omega arith))), and-false)
 
--- ---- what the search answers, by whether the part is sound, and back
-module _ (g : Shape) (p : List ℕ) where
-  pub searched-is : searched g p ≡ cond (sound quadratic g p) (accepted (total quadratic g p)) (refused 6)
-  unfolding searched answer
-  searched-is = refl
+-- ---- what the search answers, by whether the elements are sound
+pub searched-is : (g : Shape) (p : List ℕ) → searched g p ≡ cond (sum_sound quadratic g p) (accepted (total quadratic g p)) (refused 6)
+unfolding searched answer
+searched-is g p = refl
 
-  pub searched-yes : (t : ℕ) → searched g p ≡ accepted t → sound quadratic g p ≡ true
-  searched-yes t h = go (sound quadratic g p) (sym searched-is ∙ h)
+-- an answer of one test is accepted exactly where it is passed
+module _ (b : Bool) (t : ℕ) where
+  tested-yes : (u : ℕ) → answer (check 6 b ∷ []) t ≡ accepted u → (b ≡ true) × (t ≡ u)
+  unfolding answer
+  tested-yes u = go b
     where
-      go : (b : Bool) → cond b (accepted (total quadratic g p)) (refused 6) ≡ accepted t → b ≡ true
-      go true e = refl
+      go : (b : Bool) → cond b (accepted t) (refused 6) ≡ accepted u → (b ≡ true) × (t ≡ u)
+      go true e = (refl, cc)
       go false e = let z : ◌≡◌ {A = ℕ} 0 1 = cc in absurd (omega arith)
 
-  pub searched-no : (n : ℕ) → searched g p ≡ refused n → sound quadratic g p ≡ false
-  searched-no n h = go (sound quadratic g p) (sym searched-is ∙ h)
+  tested-no : (n : ℕ) → answer (check 6 b ∷ []) t ≡ refused n → (b ≡ false) × (n ≡ 6)
+  unfolding answer
+  tested-no n = go b
     where
-      go : (b : Bool) → cond b (accepted (total quadratic g p)) (refused 6) ≡ refused n → b ≡ false
+      go : (b : Bool) → cond b (accepted t) (refused 6) ≡ refused n → (b ≡ false) × (n ≡ 6)
       go true e = let z : ◌≡◌ {A = ℕ} 0 1 = cc in absurd (omega arith)
-      go false e = refl
+      go false e = (refl, cc)
 
--- a search accepts exactly a sound part
-pub is-sound : (g : Shape) (p : List ℕ) (r : Result ℕ Refusal) → answered r ≡ searched g p → is_ok r ≡ sound quadratic g p
-is-sound g p (Ok t) e = sym (searched-yes g p t (sym e))
-is-sound g p (Err x) e = sym (searched-no g p (number x) (sym e))
+  pub is-tested : (r : Result ℕ Refusal) → answered r ≡ answer (check 6 b ∷ []) t → is_ok r ≡ b
+  is-tested (Ok u) e = sym (tested-yes u (sym e)).0
+  is-tested (Err x) e = sym (tested-no (number x) (sym e)).0
+
+-- a search and a sum accept exactly sound numbers
+module _ (g : Shape) (p : List ℕ) (r : Result ℕ Refusal) where
+  pub is-elements-sound : answered r ≡ searched g p → is_ok r ≡ sum_sound quadratic g p
+  unfolding searched
+  is-elements-sound e = is-tested (sum_sound quadratic g p) (total quadratic g p) r e
+
+  pub is-sound : answered r ≡ compared g p → is_ok r ≡ sound quadratic g p
+  unfolding compared
+  is-sound e = is-tested (sound quadratic g p) (total quadratic g p) r e
+
+-- ---- the sum, by what the search answers and by whether it is the stored total
+module _ (g : Shape) (p : List ℕ) where
+  pub sum-refused : (n : ℕ) → searched g p ≡ refused n → compared g p ≡ refused n
+  unfolding searched compared sound answer
+  sum-refused n e = let h = tested-no (sum_sound quadratic g p) (total quadratic g p) n e in rw (h.0, h.1) refl
+
+  pub sum-is : (t : ℕ) → searched g p ≡ accepted t → stored_total quadratic g p ≡ t → compared g p ≡ accepted t
+  unfolding searched compared sound answer
+  sum-is t e s = let h = tested-yes (sum_sound quadratic g p) (total quadratic g p) t e in rw (h.0, s, h.1, eq-eqb t t refl) refl
+
+  pub sum-differs : (t : ℕ) → searched g p ≡ accepted t → stored_total quadratic g p ≢ t → compared g p ≡ refused 6
+  unfolding searched compared sound answer
+  sum-differs t e s = let h = tested-yes (sum_sound quadratic g p) (total quadratic g p) t e in rw (h.0, h.1, ne_eqb t (stored_total quadratic g p) (λ q. s (sym q))) refl

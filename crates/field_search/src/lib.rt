@@ -3,9 +3,9 @@
 
 ghost use Rattle.std.specs.Prelude.{◌≡◌, ◌≤◌, ◌<◌, ℕ, List, length, get_or};
 ghost use Rattle.rules.specs.Answers.{answered};
-ghost use Rattle.rules.specs.Field.{quadratic, faces, part_length};
+ghost use Rattle.rules.specs.Field.{quadratic, faces, elements_length, part_length};
 ghost use Rattle.rules.specs.Calls.{wind_sound};
-ghost use Rattle.field_search.specs.Search.{breaks, searched};
+ghost use Rattle.field_search.specs.Search.{breaks, searched, compared};
 
 use field_elements::element::number_weight;
 use field_layout::{Grid, wind_in_range};
@@ -21,7 +21,7 @@ pub fn winds_sound(wind: &[i16], grid: Grid) -> bool
 }
 
 // The largest remainder of an element, and the largest total of a tracer.
-const LARGEST_REMAINDER: u64 = 35;
+pub const LARGEST_REMAINDER: u64 = 35;
 
 pub const LIMIT: u64 = 100_000_000;
 
@@ -57,9 +57,9 @@ impl Numbers for Part<'_> {
     }
 }
 
-// A leaf: the total of a tracer's numbers; refusal 6 where a remainder is above 35 or the total above the limit.
+// A leaf: the sum of what a tracer's elements hold; refusal 6 where a remainder is above 35 or the sum above the limit.
 pub fn search<N: Numbers>(numbers: &N, grid: Grid) -> Result<u64, Refusal>
-    requires { length (N.numbers numbers.now) ≡ part_length quadratic grid.shape }
+    requires { elements_length quadratic grid.shape ≤ length (N.numbers numbers.now) }
     ensures { answered result ≡ searched grid.shape (N.numbers numbers.now) }
 {
     let Shape { nx, ny, .. } = grid.shape;
@@ -88,10 +88,22 @@ pub fn search<N: Numbers>(numbers: &N, grid: Grid) -> Result<u64, Refusal>
     }
 }
 
-// A leaf: the same of a part of the field.
-pub fn tracer_total(part: &[u32], grid: Grid) -> Result<u64, Refusal>
-    requires { length part.now ≡ part_length quadratic grid.shape }
-    ensures { answered result ≡ searched grid.shape part.now }
+// A leaf: the same, and refusal 6 where the sum is not the stored total.
+pub fn compared_sum<N: Numbers>(numbers: &N, grid: Grid) -> Result<u64, Refusal>
+    requires { length (N.numbers numbers.now) ≡ part_length quadratic grid.shape }
+    ensures { answered result ≡ compared grid.shape (N.numbers numbers.now) }
 {
-    search(&Part { numbers: part }, grid)
+    let sum = search(numbers, grid)?;
+    if u64::from(numbers.number(grid.elements_length())) != sum {
+        return Err(Refusal::UnsoundTracer);
+    }
+    Ok(sum)
+}
+
+// A leaf: the same of a part of the field.
+pub fn part_sum(part: &[u32], grid: Grid) -> Result<u64, Refusal>
+    requires { length part.now ≡ part_length quadratic grid.shape }
+    ensures { answered result ≡ compared grid.shape part.now }
+{
+    compared_sum(&Part { numbers: part }, grid)
 }

@@ -44,14 +44,14 @@ module _ (file : List ℕ) (a : ℕ) where
 
 -- ---- a section of blocks of width w
 module _ (w : ℕ) (f : ℕ → List ℕ) (each : (e : ℕ) → length (f e) ≡ w) (file : List ℕ) (a : ℕ) where
-  block_of : (n : ℕ) → Has a (blocks n f) file → (e : ℕ) → e < n → Has (a + e * w) (f e) file
+  pub block_of : (n : ℕ) → Has a (blocks n f) file → (e : ℕ) → e < n → Has (a + e * w) (f e) file
   block_of n h e he = record {
     at = λ k hk.
         let l : k < w = omega (arith, each e) in
         ap (byte_at file) (omega arith) ∙ h.at (e * w + k) (omega (arith, digits_lt he l, length-blocks w f each n)) ∙ get_d-blocks w f each n e k 0 he l;
   }
 
-  section-of : (n : ℕ) → ((e : ℕ) → e < n → Has (a + e * w) (f e) file) → Has a (blocks n f) file
+  pub section-of : (n : ℕ) → ((e : ℕ) → e < n → Has (a + e * w) (f e) file) → Has a (blocks n f) file
   unfolding blocks
   section-of zero h = record { at = λ k l. let c : ⊥ = omega arith in absurd c }
   section-of (suc n) h = has_both file a (blocks n f) (f n) (section-of n (λ e l. h e (omega arith)))

@@ -1,4 +1,5 @@
--- Laws of the tail, of the sections and of the checks.
+-- Laws of the tail, of the sections and their parts, and of the checks.
 pub mod TailLaws
 pub mod ReadLaws
+pub mod PartLaws
 pub mod CheckLaws

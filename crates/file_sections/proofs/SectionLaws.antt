@@ -1,12 +1,16 @@
--- A number of a section, by its bytes.
+-- The numbers of a section, by its bytes.
 use Rattle.std.proofs.Common.{◌≡◌, Bool, sym, ap, ◌∙◌, ℕ, ◌*◌, ◌-◌, ◌<◌, List, length, take, drop, get_or}
 use native.Mathlib.Nat.{mul_comm}
-use Rattle.whole.proofs.TableLaws.{get_d-table}
+use Rattle.whole.proofs.TableLaws.{length-table, get_d-table}
 use Rattle.rules.specs.Bytes.{number32, number16}
 use Rattle.file_numbers.specs.Laws.{StoredLaws, laws16}
 use Rattle.file_numbers.proofs.PlaceLaws.{read-at}
 use Rattle.rules.specs.Field.{wind_in_range}
 use Rattle.file_sections.specs.Numbers.{numbers_of}
+
+pub length-numbers : (section : List ℕ) (n : ℕ) → length (numbers_of section n) ≡ n
+unfolding numbers_of
+length-numbers section n = length-table n (λ i. number32 section (4 * i))
 
 pub number_at : (section : List ℕ) (n i : ℕ) → i < n → number32 section (4 * i) ≡ get_or (numbers_of section n) i 0
 unfolding numbers_of

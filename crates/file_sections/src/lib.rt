@@ -11,6 +11,7 @@ ghost use Rattle.rules.specs.Bytes.{number16};
 use field_layout::wind_in_range;
 use file_numbers::Stored;
 
+pub mod part; // part.rt: a tracer's part, read from its section
 pub mod search; // search.rt: the search of a tracer's section
 
 // Reads a number of the section for each entry of `out`. Here and below a number stands by its place: of what stands in

@@ -1,12 +1,14 @@
 // The search of a tracer's section of a file, on its bytes: a reader writes no number before every tracer has passed.
 ghost use Rattle.std.specs.Prelude.{◌≡◌, ◌+◌, ◌*◌, ◌≤◌, length};
 ghost use Rattle.rules.specs.Bytes.{number32};
-ghost use Rattle.rules.specs.Field.{quadratic, part_length, sound};
-ghost use Rattle.file_sections.specs.Numbers.{numbers_of};
+ghost use Rattle.rules.specs.Field.{quadratic, sound};
+ghost use Rattle.rules.specs.FieldFile.{section_length};
+ghost use Rattle.file_sections.specs.Numbers.{part_of_section};
 
-use field_layout::Grid;
 use field_search::Numbers;
+use file_layout::Layout;
 use file_numbers::Stored;
+use rules::Mark;
 
 // A tracer's section: its numbers one after the other.
 #[derive(Clone, Copy)]
@@ -33,10 +35,15 @@ fn number(section: &[u8], k: usize) -> u32
     u32::read(&section[4 * k..])
 }
 
-// A leaf: whether no remainder of a tracer's section is above 35 and the total is not above the limit.
-pub fn tracer_sound(section: &[u8], grid: Grid) -> bool
-    requires { length section.now ≡ 4 * part_length quadratic grid.shape }
-    ensures { result ≡ sound quadratic grid.shape (numbers_of section.now (part_length quadratic grid.shape)) }
+// A leaf: whether a tracer's section is sound: "PLUM" has no total that its sum could differ from.
+pub fn tracer_sound(section: &[u8], layout: Layout) -> bool
+    requires { length section.now ≡ 4 * section_length quadratic layout.mark layout.grid.shape }
+    ensures { result ≡ sound quadratic layout.grid.shape (part_of_section layout.mark layout.grid.shape section.now) }
 {
-    field_search::search(&Section { bytes: section }, grid).is_ok()
+    let numbers = Section { bytes: section };
+    let sum = match layout.mark {
+        Mark::Plum => field_search::search(&numbers, layout.grid),
+        Mark::Plu2 => field_search::compared_sum(&numbers, layout.grid),
+    };
+    sum.is_ok()
 }

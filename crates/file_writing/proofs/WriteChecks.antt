@@ -7,6 +7,7 @@ use lib.Dec.{leb}
 use lib.IntN.{ℤ}
 use lib.ListN.{length}
 use Rattle.rules.specs.declared.Shape.{Shape}
+use Rattle.rules.specs.declared.Mark.TheVariants.{Plu2}
 use Rattle.rules.specs.Answers.{Answer, accepted, refused, answer}
 use Rattle.rules.specs.Field.{quadratic, admitted, faces, field_length}
 use Rattle.rules.specs.Calls.{wind_sound}
@@ -15,7 +16,7 @@ use Rattle.rules.specs.FieldFile.{file_length, field_sound, write_reply, write_f
 module _ (g : Shape) (field : List ℕ) (wind : List ℤ) (file : List ℕ) where
   -- the buffers are long enough
   abbrev pub enough : Bool
-  enough = leb (field_length quadratic g) (length field) && (leb (faces g) (length wind) && leb (file_length quadratic g) (length file))
+  enough = leb (field_length quadratic g) (length field) && (leb (faces g) (length wind) && leb (file_length quadratic Plu2 g) (length file))
 
   pub write-2 : admitted g ≡ false → write_reply quadratic g field wind file ≡ refused 2
   unfolding write_reply answer
@@ -36,7 +37,7 @@ module _ (g : Shape) (field : List ℕ) (wind : List ℤ) (file : List ℕ) wher
         unfolding write_reply answer
         write-6 t = rw (a, e, w, t)
 
-        pub write-passed : field_sound quadratic g field ≡ true → write_reply quadratic g field wind file ≡ accepted (file_length quadratic g)
+        pub write-passed : field_sound quadratic g field ≡ true → write_reply quadratic g field wind file ≡ accepted (file_length quadratic Plu2 g)
         unfolding write_reply answer
         write-passed t = rw (a, e, w, t)
 

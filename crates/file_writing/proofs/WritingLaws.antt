@@ -14,13 +14,20 @@ use Rattle.whole.proofs.OverwriteLaws.{part-size, part_room, length-overwrite, f
 use Rattle.whole.proofs.TableLaws.{blocks_more, blocks-cong}
 use Rattle.std.proofs.lemmas.List.{take-take, drop-take}
 use Rattle.rules.specs.declared.Shape.{Shape}
+use Rattle.rules.specs.declared.Mark.{Mark}
+use Rattle.rules.specs.declared.Mark.TheVariants.{Plu2}
+use Rattle.field_layout.specs.declared.grid.Grid.{Grid}
 use Rattle.rules.specs.Field.{quadratic, part_length, field_length, part, sound}
 use Rattle.rules.specs.Bytes.{bytes32}
-use Rattle.rules.specs.FieldFile.{table_start, mark, tail}
+use Rattle.rules.specs.FieldFile.{mark_bytes, table_start, tail}
 use Rattle.file_layout.proofs.FileLaws.{shape_bytes}
 use Rattle.file_layout.proofs.NumberLaws.{code32}
 use Rattle.whole.proofs.ListParts.{overwrite-next, overwritten}
 use Rattle.file_layout.proofs.SectionLaws.{length-section32}
+
+-- a number of a layout of grid g with the mark "PLU2"
+pub of-layout : {m : Mark} {k g : Grid} {n : ℕ} (f : Mark → Shape → ℕ) → n ≡ f m k.shape → k ≡ g → m ≡ Plu2 → n ≡ f Plu2 g.shape
+of-layout f e grid mark = e ∙ (λ i. f (mark i) (grid i).shape)
 
 -- ---- the part of tracer k, in the front of the field that its tracers take
 module _ (g : Shape) (field : List ℕ) where
@@ -55,15 +62,18 @@ module _ (g : Shape) (out : List ℕ) (size : length out ≡ 12) where
   shape = shape_bytes g
 
   abbrev offset : List ℕ
-  offset = bytes32 (table_start quadratic g)
+  offset = bytes32 (table_start quadratic Plu2 g)
 
-  pub tail_written : (n : ℕ) (o₁ o₂ y z : List ℕ) → n ≡ table_start quadratic g → o₁ ≡ shape ++ drop 4 out → y ≡ overwrite 0 (bytes32 n) (take (length o₁ - 4) (drop 4 o₁))
-      → o₂ ≡ put_mid 4 (length o₁ - 4) o₁ y → z ≡ mark → put_mid 8 (length o₂ - 8) o₂ z ≡ tail quadratic g
+  abbrev mark : List ℕ
+  mark = mark_bytes Plu2
+
+  pub tail_written : (n : ℕ) (o₁ o₂ y z : List ℕ) → n ≡ table_start quadratic Plu2 g → o₁ ≡ shape ++ drop 4 out → y ≡ overwrite 0 (bytes32 n) (take (length o₁ - 4) (drop 4 o₁))
+      → o₂ ≡ put_mid 4 (length o₁ - 4) o₁ y → z ≡ mark → put_mid 8 (length o₂ - 8) o₂ z ≡ tail quadratic Plu2 g
   unfolding tail
   tail_written n o₁ o₂ y z en e₁ ey e₂ ez =
       let a : o₁ ≡ overwrite 0 shape out = e₁ ∙ sym (front-is shape out) in
       let b : o₂ ≡ overwrite 0 (shape ++ offset) out = e₂ ∙ write-at 4 (bytes32 n) o₁ y ey ∙ (λ i. overwrite 4 (bytes32 (en i)) (a i)) ∙ overwrite-next 0 4 shape offset out refl (omega arith) in
-      let lo : length (shape ++ offset) ≡ 8 = length-append shape offset ∙ omega (arith, code32.size (table_start quadratic g)) in
+      let lo : length (shape ++ offset) ≡ 8 = length-append shape offset ∙ omega (arith, code32.size (table_start quadratic Plu2 g)) in
       let lb : length o₂ ≡ 12 = ap length b ∙ length-overwrite 0 (shape ++ offset) out (omega arith) ∙ size in
       let last = part-size 4 8 (length o₂ - 8) o₂ (omega arith) (omega arith) in
       write-at 8 mark o₂ z (ez ∙ sym (overwritten mark (take (length o₂ - 8) (drop 8 o₂)) last)) ∙ ap (overwrite 8 mark) b

@@ -2,6 +2,7 @@
 ghost use Rattle.std.specs.Prelude.{◌≡◌, ◌&&◌, ◌≤◌, leb, length};
 ghost use Rattle.rules.specs.Answers.{answered};
 ghost use Rattle.rules.specs.Field.{quadratic, faces, field_length};
+ghost use Rattle.rules.specs.declared.Mark.TheVariants.{Plu2};
 ghost use Rattle.rules.specs.FieldFile.{file_length, field_sound, write_reply};
 
 use field_layout::Grid;
@@ -10,9 +11,11 @@ use rules::Refusal;
 // Whether buffers of these lengths are long enough. A step asks for another list, of which this has two lengths: one function for both would take
 // a list and be no plainer.
 fn lent_enough(field: usize, wind: usize, file: usize, grid: Grid) -> bool
-    ensures { result ≡ (leb (field_length quadratic grid.shape) field && (leb (faces grid.shape) wind && leb (file_length quadratic grid.shape) file)) }
+    ensures { result ≡ (leb (field_length quadratic grid.shape) field && (leb (faces grid.shape) wind && leb (file_length quadratic Plu2 grid.shape) file)) }
 {
-    grid.field_length() <= field && grid.faces() <= wind && file_layout::file_length(grid) <= file
+    grid.field_length() <= field
+        && grid.faces() <= wind
+        && crate::layout(grid).file_length() <= file
 }
 
 // Whether every tracer is sound. One chain, as of a file's sections (file_reading), but over numbers.
@@ -22,7 +25,7 @@ fn tracers_sound(field: &[u32], grid: Grid) -> bool
 {
     field[..grid.field_length()]
         .chunks_exact(grid.part_length())
-        .all(|part| field_search::tracer_total(part, grid).is_ok())
+        .all(|part| field_search::part_sum(part, grid).is_ok())
 }
 
 // The checks of a writing on a grid: 4, 5 and 6.
@@ -39,5 +42,5 @@ pub(crate) fn check(file: &[u8], field: &[u32], wind: &[i16], grid: Grid) -> Res
         return Err(Refusal::UnsoundTracer);
     }
     // `as`: std has no `From` of usize for u64, and `try_from` would want an `unwrap` that never fails.
-    Ok(file_layout::file_length(grid) as u64)
+    Ok(crate::layout(grid).file_length() as u64)
 }

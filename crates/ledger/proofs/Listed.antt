@@ -2,7 +2,7 @@
 -- a table. The numbers are the reference program's (`reference/tests/listed.rs`).
 use mathlib.Core.Path.{◌≡◌, refl}
 use mathlib.Core.List.{List, [], ◌∷◌, map}
-use Prim.Native.Nat.{ℕ, ◌*◌}
+use Prim.Native.Nat.{ℕ, ◌+◌, ◌*◌}
 use lib.IntN.{ℤ, pos, negsuc}
 use lib.ListN.{get_or, replicate}
 use Rattle.whole.specs.Sum.{sum, sum_ℤ, all}
@@ -13,20 +13,20 @@ use Rattle.rules.specs.declared.Shape.{Shape}
 use Rattle.rules.specs.declared.Way.{Way}
 use Rattle.rules.specs.declared.Way.TheVariants.{East, North}
 use Rattle.rules.specs.Answers.{Answer, accepted, refused, answer, after}
-use Rattle.rules.specs.Field.{quadratic, admitted, elements, faces, work_needed, element_length, elements_length, part_length, field_length, part, with_part, cell, remainder, mass, total, sound, weighted, weight_sum}
+use Rattle.rules.specs.Field.{quadratic, admitted, elements, faces, work_needed, element_length, elements_length, part_length, field_length, part, with_part, cell, remainder, mass, total, stored_total, part_of, with_stored_total, sum_sound, sound, stored_sound, element_sound, named_sound, if_there, weighted, weight_sum}
 use Rattle.rules.specs.Limiter.{mean_shift, adjusted, truncated, clipped, rescaled, rescaled_value, closing_remainder, closed_unlevelled, closed}
 use Rattle.rules.specs.Grid.{east, west, north, south, behind, ahead}
 use Rattle.rules.specs.Stages.{upwind, place_wind, advection, along_x, along_y, tendency, tabulated, stage0, stage1, stage2, tentative, flux_of, face_sum, stages, flux}
 use Rattle.rules.specs.Correction.{donor, outflow, with_sign, cut, limited_flux, target}
 use Rattle.rules.specs.HeldFlux.{node_rise, face_rise, with_held_flux}
 use Rattle.rules.specs.Step.{fluxes, report, closed_element, finish, tracer_step}
-use Rattle.rules.specs.Calls.{load, emission, withdrawal, step, Reply, no_report, wind_sound, zero_wind, zero_field, loaded_value, loaded_element, with_element, emitted, withdrawn, loaded, done, lent_enough, sound_if_there, checks, call, one_face, from_records, wind_reply, new_wind, wind_after}
+use Rattle.rules.specs.Calls.{load, emission, withdrawal, step, Reply, no_report, wind_sound, zero_wind, zero_field, loaded_value, loaded_element, with_element, emitted, withdrawn, loaded, done, lent_enough, checks, call, one_face, from_records, wind_reply, new_wind, wind_after}
 use Rattle.rules.specs.Bytes.{number32, number64}
 use Rattle.rules.specs.WindRecords.{magnitude, exact_value, face_wind, components_at, whole_at, reading_checks, record_checks, record_start, all_record_checks, record_winds}
 use Rattle.rules.specs.Ledger.{carried, entry}
 use Rattle.ledger.specs.Lists.{Call, on_wind, on, fresh, lend, unreported, perform, run, line, ledger_from, ledger, stays, strike, replies_left}
 
--- a list of calls on two smokes, its answers, the parts of the smokes, the winds and the ledgers of the smokes after it
+-- a list of calls on two smokes, its answers, the parts of the smokes, each with its stored total at the end, the winds and the ledgers of the smokes after it
 pub record Listing : Type 0 where
   pub shape : Shape
   pub calls : List Call
@@ -84,7 +84,7 @@ on-one-row = record {
       ∷ refused 9
       ∷ stepped (pos 5 ∷ negsuc 3 ∷ pos 0 ∷ pos 0 ∷ []) 4
       ∷ [];
-  parts = (0 ∷ 0 ∷ 1 ∷ 0 ∷ 0 ∷ 0 ∷ 0 ∷ 0 ∷ 0 ∷ 1 ∷ 6 ∷ 3 ∷ 0 ∷ 1 ∷ 1 ∷ 0 ∷ 4 ∷ 2 ∷ 1 ∷ 11 ∷ []) ∷ (1 ∷ 4 ∷ 4 ∷ 1 ∷ 4 ∷ 4 ∷ 1 ∷ 4 ∷ 4 ∷ 14 ∷ 3 ∷ 0 ∷ 0 ∷ 3 ∷ 0 ∷ 0 ∷ 3 ∷ 0 ∷ 0 ∷ 14 ∷ []) ∷ [];
+  parts = (0 ∷ 0 ∷ 1 ∷ 0 ∷ 0 ∷ 0 ∷ 0 ∷ 0 ∷ 0 ∷ 1 ∷ 6 ∷ 3 ∷ 0 ∷ 1 ∷ 1 ∷ 0 ∷ 4 ∷ 2 ∷ 1 ∷ 11 ∷ 64 ∷ []) ∷ (1 ∷ 4 ∷ 4 ∷ 1 ∷ 4 ∷ 4 ∷ 1 ∷ 4 ∷ 4 ∷ 14 ∷ 3 ∷ 0 ∷ 0 ∷ 3 ∷ 0 ∷ 0 ∷ 3 ∷ 0 ∷ 0 ∷ 14 ∷ 172 ∷ []) ∷ [];
   winds = pos 1024 ∷ pos 700 ∷ pos 300 ∷ pos 0 ∷ [];
   ledgers = (pos 2 ∷ pos 62 ∷ []) ∷ (pos 140 ∷ pos 32 ∷ []) ∷ [];
 }
@@ -178,7 +178,7 @@ all-four-ways = record {
       ∷ refused 9
       ∷ stepped (negsuc 17 ∷ pos 2 ∷ pos 12 ∷ negsuc 1 ∷ pos 30 ∷ negsuc 8 ∷ pos 50 ∷ pos 11 ∷ []) 13
       ∷ [];
-  parts = (0 ∷ 11 ∷ 10 ∷ 6 ∷ 23 ∷ 1 ∷ 4 ∷ 14 ∷ 2 ∷ 15 ∷ 7 ∷ 0 ∷ 2 ∷ 0 ∷ 0 ∷ 0 ∷ 3 ∷ 0 ∷ 0 ∷ 14 ∷ 2 ∷ 3 ∷ 0 ∷ 0 ∷ 7 ∷ 6 ∷ 0 ∷ 7 ∷ 7 ∷ 0 ∷ 7 ∷ 4 ∷ 1 ∷ 14 ∷ 5 ∷ 0 ∷ 16 ∷ 4 ∷ 0 ∷ 22 ∷ []) ∷ (0 ∷ 0 ∷ 0 ∷ 3 ∷ 5 ∷ 1 ∷ 3 ∷ 7 ∷ 1 ∷ 19 ∷ 0 ∷ 0 ∷ 0 ∷ 0 ∷ 0 ∷ 0 ∷ 0 ∷ 0 ∷ 0 ∷ 0 ∷ 0 ∷ 2 ∷ 1 ∷ 0 ∷ 0 ∷ 0 ∷ 0 ∷ 0 ∷ 0 ∷ 16 ∷ 0 ∷ 0 ∷ 0 ∷ 0 ∷ 0 ∷ 0 ∷ 0 ∷ 0 ∷ 0 ∷ 0 ∷ []) ∷ [];
+  parts = (0 ∷ 11 ∷ 10 ∷ 6 ∷ 23 ∷ 1 ∷ 4 ∷ 14 ∷ 2 ∷ 15 ∷ 7 ∷ 0 ∷ 2 ∷ 0 ∷ 0 ∷ 0 ∷ 3 ∷ 0 ∷ 0 ∷ 14 ∷ 2 ∷ 3 ∷ 0 ∷ 0 ∷ 7 ∷ 6 ∷ 0 ∷ 7 ∷ 7 ∷ 0 ∷ 7 ∷ 4 ∷ 1 ∷ 14 ∷ 5 ∷ 0 ∷ 16 ∷ 4 ∷ 0 ∷ 22 ∷ 952 ∷ []) ∷ (0 ∷ 0 ∷ 0 ∷ 3 ∷ 5 ∷ 1 ∷ 3 ∷ 7 ∷ 1 ∷ 19 ∷ 0 ∷ 0 ∷ 0 ∷ 0 ∷ 0 ∷ 0 ∷ 0 ∷ 0 ∷ 0 ∷ 0 ∷ 0 ∷ 2 ∷ 1 ∷ 0 ∷ 0 ∷ 0 ∷ 0 ∷ 0 ∷ 0 ∷ 16 ∷ 0 ∷ 0 ∷ 0 ∷ 0 ∷ 0 ∷ 0 ∷ 0 ∷ 0 ∷ 0 ∷ 0 ∷ 172 ∷ []) ∷ [];
   winds = negsuc 1023 ∷ pos 700 ∷ pos 300 ∷ pos 300 ∷ pos 500 ∷ negsuc 299 ∷ pos 1024 ∷ pos 250 ∷ [];
   ledgers = (pos 527 ∷ pos 26 ∷ pos 185 ∷ pos 214 ∷ []) ∷ (pos 147 ∷ pos 0 ∷ pos 25 ∷ pos 0 ∷ []) ∷ [];
 }
@@ -204,7 +204,7 @@ struck l = record {
   shape = l.shape;
   calls = strike 0 l.calls;
   replies = replies_left 0 l.calls l.replies;
-  parts = get_or l.parts 0 [] ∷ replicate (elements l.shape * 10) 0 ∷ [];
+  parts = get_or l.parts 0 [] ∷ replicate (elements l.shape * 10 + 1) 0 ∷ [];
   winds = l.winds;
   ledgers = get_or l.ledgers 0 [] ∷ replicate (elements l.shape) (pos 0) ∷ [];
 }
@@ -214,7 +214,7 @@ listings = on-one-row ∷ by-import ∷ all-four-ways ∷ struck on-one-row ∷ 
 
 pub listed : map (λ l. evaluated l.shape l.calls) listings ≡ listings
 unfolding evaluated struck strike stays replies_left ledger ledger_from line entry carried
-    run perform lend unreported call answer after admitted lent_enough checks sound_if_there sound wind_sound done loaded loaded_element loaded_value with_element emitted withdrawn wind_reply new_wind wind_after
+    run perform lend unreported call answer after admitted lent_enough checks if_there sum_sound sound stored_sound element_sound named_sound stored_total part_of with_stored_total wind_sound done loaded loaded_element loaded_value with_element emitted withdrawn wind_reply new_wind wind_after
     all_record_checks record_checks reading_checks record_start whole_at components_at record_winds face_wind exact_value magnitude nearest nearest_natural number64 number32
     fresh zero_field zero_wind element_length elements_length part_length field_length part with_part cell remainder mass total weighted weight_sum quadratic
     tracer_step stages stage0 stage1 stage2 tentative tabulated tendency along_x along_y advection place_wind upwind flux flux_of face_sum fluxes report donor outflow limited_flux cut with_sign node_rise face_rise with_held_flux closed_element finish target

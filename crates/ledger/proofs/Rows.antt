@@ -7,18 +7,19 @@ use lib.Dec.{leb, leb→le}
 use lib.IntN.{ℤ, pos}
 use lib.ListN.{length, take, drop}
 use lib.Seq.{take_at}
+use Rattle.whole.specs.Sum.{sum_ℤ}
 use Rattle.whole.proofs.Cases.{both_yes}
 use Rattle.whole.proofs.OverwriteLaws.{front-is}
 use Rattle.rules.specs.declared.Shape.{Shape}
 use Rattle.std.specs.Prelude.{Ok}
 use Rattle.rules.specs.Answers.{Answer, accepted, refused, mapped, plain, answers}
-use Rattle.rules.specs.Field.{quadratic, faces, field_length, part, remainder, mass, total, limit}
+use Rattle.rules.specs.Field.{quadratic, elements, faces, field_length, part, remainder, mass, total, stored_total, sound, limit}
 use Rattle.rules.specs.Calls.{Operation, load, emission, withdrawal, step, Lent, lengths_lent, lent, Reply, no_report, done, call, fresh_reply, fresh_field, fresh_wind, zero_field, zero_wind, clipped_mass, report_after, FreshGives, fresh_checks}
 use Rattle.rules.specs.Step.{tracer_step}
 use Rattle.rules.proofs.AnswerLaws.{answer-ind, after-accepted}
 use Rattle.rules.proofs.FieldLaws.{call-ind}
 use Rattle.rules.proofs.StepLaws.{report-length}
-use Rattle.ledger.specs.Lists.{Call, on_wind, on, State, Buffers, fresh, lend, unreported, perform, run, ledger, strike, replies_left}
+use Rattle.ledger.specs.Lists.{Call, on_wind, on, State, Buffers, fresh, lend, unreported, perform, run, NeverRefused, ledger, strike, replies_left}
 use Rattle.ledger.specs.Demand3.{Demand3}
 use Rattle.ledger.specs.OverCalls.{Given, Made, Row, reported, told, all_told, AfterRow}
 use Rattle.ledger.proofs.Theorem.{demand-3}
@@ -126,6 +127,9 @@ demand-3-over-calls g b field wind x started calls ds z row =
       ledger-agrees = λ s hs e he. ap (λ l. ledger quadratic g calls l s e) w.replies ∙ h.ledger-agrees s hs e he ∙ ap (λ y. pos (mass quadratic (part quadratic g s y.field) e)) (sym w.end);
       remainders = λ s hs e he. subst (λ y. remainder quadratic (part quadratic g s y.field) e < 36) (sym w.end) (h.remainders s hs e he);
       totals = λ s hs. subst (λ y. total quadratic g (part quadratic g s y.field) ≤ limit) (sym w.end) (h.totals s hs);
+      stored = λ s hs. ap (λ y. pos (stored_total quadratic g (part quadratic g s y.field))) w.end ∙ h.stored s hs ∙ ap (λ l. sum_ℤ (elements g) (ledger quadratic g calls l s)) (sym w.replies);
+      never-6 = subst (NeverRefused 6) (sym w.replies) h.never-6;
+      sound-parts = λ s hs. ap (λ y. sound quadratic g (part quadratic g s y.field)) w.end ∙ h.sound-parts s hs;
       replies-stay = λ s hs ds' z' row'. (row_is g b (strike s calls) x ds' z' row').replies ∙ h.replies-stay s hs ∙ ap (replies_left s calls) (sym w.replies);
       part_stays = λ s hs ds' z' row'. ap (λ y. part quadratic g s y.field) (row_is g b (strike s calls) x ds' z' row').end ∙ h.part_stays s hs ∙ ap (λ y. part quadratic g s y.field) (sym w.end);
     }

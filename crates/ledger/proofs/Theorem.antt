@@ -7,10 +7,12 @@ use lib.IntN.{ℤ}
 use lib.ListN.{length}
 use Rattle.rules.specs.declared.Shape.{Shape}
 use Rattle.rules.specs.Field.{Kind, quadratic, weight_sum, field_length, limit}
+use Rattle.whole.proofs.Cases.{true_of}
 use Rattle.rules.proofs.QuadraticLaws.{weights-36}
+use Rattle.rules.proofs.SoundLaws.{good-sound}
 use Rattle.ledger.specs.Lists.{Call, Buffers, fresh}
 use Rattle.ledger.specs.Demand3.{Demand3}
-use Rattle.ledger.proofs.Agreement.{list-agrees, fresh-agrees}
+use Rattle.ledger.proofs.Agreement.{stored-agrees, list-agrees, list-never-6, fresh-agrees}
 use Rattle.ledger.proofs.Striking.{Like, struck}
 
 -- for any kind of element whose weights sum to more than 0, every shape, buffers of any content that are long enough, every list
@@ -25,6 +27,9 @@ demand-3-of κ hw g b field wind room calls =
       ledger-agrees = agrees.agree;
       remainders = λ s h e l. (agrees.good s h).small e l;
       totals = λ s h. (agrees.good s h).bounded;
+      stored = stored-agrees κ g _ _ agrees;
+      never-6 = list-never-6 κ g hw field wind room b calls;
+      sound-parts = λ s h. true_of _ (good-sound κ g _ (agrees.good s h));
       replies-stay = λ s h. (struck κ g b s calls st st (like s)).replies-left;
       part_stays = λ s h. sym (struck κ g b s calls st st (like s)).ends.parts;
     }

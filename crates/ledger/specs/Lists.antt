@@ -1,6 +1,6 @@
 -- Document 01, "Calls on a field" and "Ledger": a list of calls, what it does to field and wind, the ledger fed with it, and
 -- the list with the calls on other tracers struck out.
-use Rattle.std.specs.Prelude.{Bool, true, ℕ, eqb, ℤ}
+use Rattle.std.specs.Prelude.{◌≢◌, Bool, true, ℕ, eqb, ℤ}
 use Rattle.std.proofs.Math.Bool.{cond}
 use mathlib.Core.List.{List, [], ◌∷◌}
 use Rattle.std.proofs.Math.IntN.{pos}
@@ -69,6 +69,11 @@ module _ (κ : Kind) (g : Shape) (b : Buffers) where
       let d = perform c st in
       let r = run cs d.state in
       record { replies = d.reply ∷ r.replies; end = r.end }
+
+-- none of these answers is a refusal by n
+abbrev pub NeverRefused : ℕ → List (Answer Reply) → Type 0
+NeverRefused n [] = Unit {0}
+NeverRefused n (a ∷ replies) = (a ≢ refused n) × NeverRefused n replies
 
 -- ---- the ledger: one whole number per tracer and element, fed with calls and answers
 module _ (κ : Kind) (g : Shape) where

@@ -1,12 +1,13 @@
 -- Demand 3 over the calls of the code: a row of calls, of each of which nothing is known but what its contract says.
-use Rattle.std.specs.Prelude.{◌≡◌, ℕ, ◌≤◌, ◌<◌, ℤ, pos, length, take, Result}
+use Rattle.std.specs.Prelude.{◌≡◌, true, ℕ, ◌≤◌, ◌<◌, ℤ, pos, length, take, Result}
 use mathlib.Core.List.{List, [], ◌∷◌}
+use Rattle.whole.specs.Sum.{sum_ℤ}
 use Rattle.rules.specs.declared.Shape.{Shape}
 use Rattle.rules.specs.Answers.{Answer, accepted, refused, answered, answers}
-use Rattle.rules.specs.Field.{quadratic, elements, faces, part, remainder, mass, total, limit}
+use Rattle.rules.specs.Field.{quadratic, elements, faces, part, remainder, mass, total, limit, stored_total, sound}
 use Rattle.rules.specs.Calls.{load, emission, withdrawal, step, Reply, CallGives, StepGives, WindGives}
 use Rattle.rules.specs.declared.Refusal.{Refusal}
-use Rattle.ledger.specs.Lists.{Call, on_wind, on, State, Buffers, unreported, ledger, strike, replies_left}
+use Rattle.ledger.specs.Lists.{Call, on_wind, on, State, Buffers, unreported, NeverRefused, ledger, strike, replies_left}
 
 -- what one call of the code gave: its answer, of one of two types, field and wind at exit, and report and work at entry (lent) and at exit (left). A call
 -- of the one type says nothing of the other's answer, and nothing reads it (`told`)
@@ -69,6 +70,11 @@ pub record AfterRow (g : Shape) (b : Buffers) (x : State) (calls : List Call) (d
   pub ledger-agrees : (s : ℕ) → s < g.tracers → (e : ℕ) → e < elements g → ledger quadratic g calls (all_told g calls ds) s e ≡ pos (mass quadratic (part quadratic g s z.field) e)
   pub remainders : (s : ℕ) → s < g.tracers → (e : ℕ) → e < elements g → remainder quadratic (part quadratic g s z.field) e < 36
   pub totals : (s : ℕ) → s < g.tracers → total quadratic g (part quadratic g s z.field) ≤ limit
+  -- "For any list from a fresh field the stored total is the sum of what the ledger says each element holds." (document 02, 2026-06)
+  pub stored : (s : ℕ) → s < g.tracers → pos (stored_total quadratic g (part quadratic g s z.field)) ≡ sum_ℤ (elements g) (ledger quadratic g calls (all_told g calls ds) s)
+  -- so no call of the row is refused by 6, and every part passes the test of all its numbers after it
+  pub never-6 : NeverRefused 6 (all_told g calls ds)
+  pub sound-parts : (s : ℕ) → s < g.tracers → sound quadratic g (part quadratic g s z.field) ≡ true
   -- a row of the calls that are left when those on other tracers than s are struck, started alike
   pub replies-stay : (s : ℕ) → s < g.tracers → (ds' : List Given) (z' : State) → Row g b (strike s calls) x ds' z'
       → all_told g (strike s calls) ds' ≡ replies_left s calls (all_told g calls ds)

@@ -1,4 +1,4 @@
--- The map's checks, by the code's tests and the reading of the tracer's total; and what an answer leaves in the page.
+-- The map's checks, by the code's tests and the sum of the tracer; and what an answer leaves in the page.
 use mathlib.Core.Path.{◌≡◌, sym, subst, ◌∙◌}
 use mathlib.Core.Bool.{true, false}
 use mathlib.Core.List.{List, []}
@@ -9,12 +9,12 @@ use lib.ListN.{length}
 use Rattle.whole.specs.Table.{overwrite}
 use Rattle.whole.proofs.Cases.{and-true, and-false}
 use Rattle.rules.specs.declared.Shape.{Shape}
-use Rattle.rules.specs.Answers.{Answer, accepted, refused, answer}
-use Rattle.rules.specs.Field.{quadratic, admitted, field_length, part}
-use Rattle.rules.specs.Calls.{total_reading, total_checks}
+use Rattle.rules.specs.Answers.{Answer, accepted, refused, Check, answer}
+use Rattle.rules.specs.Field.{quadratic, admitted, field_length, part, total, sound}
+use Rattle.rules.specs.Calls.{part_checks}
 use Rattle.rules.specs.Map.{page_text, page_length, map_reading, map_page}
-use Rattle.rules.proofs.AnswerLaws.{after-refused, after-accepted}
-use Rattle.field.proofs.CheckLaws.{first-refused, first-accepted}
+use Rattle.rules.proofs.AnswerLaws.{prefix-refused, prefix-accepted, after-refused, after-accepted}
+use Rattle.field.specs.Leaves.{sum_reading}
 
 -- what the map gives for a grid's shape, for the shape that it was made of
 pub on_shape : {a : Answer ℕ} {new : List ℕ} {g h : Shape} (s : ℕ) (field page : List ℕ) → g ≡ h
@@ -33,18 +33,22 @@ module _ (g : Shape) (s : ℕ) (field page : List ℕ) where
   unfolding map_reading answer
   map-short a h = rw (a, lt-leb _ _ h, and-false (leb (field_length quadratic g) (length field)))
 
-  -- a page that is long enough leaves it to the checks of the total
+  -- a page that is long enough leaves it to the checks of the sum
   module _ (room : page_length g ≤ length page) where
-    same-checks : map_reading quadratic g s field page ≡ answer (total_checks quadratic g s field) (length text)
+    abbrev checks : List Check
+    checks = part_checks quadratic g (sound quadratic g) s field
+
+    same-checks : map_reading quadratic g s field page ≡ answer checks (length text)
     unfolding map_reading
     same-checks = rw (le-leb _ _ room, and-true (leb (field_length quadratic g) (length field)))
 
-    pub map-refused : (n : ℕ) → total_reading quadratic g s field ≡ refused n → map_reading quadratic g s field page ≡ refused n
-    map-refused n e = same-checks ∙ first-refused g s field [] (length text) n e
+    pub map-refused : (n : ℕ) → sum_reading g s field ≡ refused n → map_reading quadratic g s field page ≡ refused n
+    unfolding sum_reading
+    map-refused n e = same-checks ∙ prefix-refused checks [] (total quadratic g (part quadratic g s field)) (length text) n e
 
-    pub map_found : (t : ℕ) → total_reading quadratic g s field ≡ accepted t → map_reading quadratic g s field page ≡ accepted (length text)
-    unfolding answer
-    map_found t e = same-checks ∙ first-accepted g s field [] (length text) t e
+    pub map_found : (t : ℕ) → sum_reading g s field ≡ accepted t → map_reading quadratic g s field page ≡ accepted (length text)
+    unfolding sum_reading answer
+    map_found t e = same-checks ∙ prefix-accepted checks [] (total quadratic g (part quadratic g s field)) t (length text) e
 
   -- what a refused and an accepted map leave
   pub page-kept : (n : ℕ) → map_reading quadratic g s field page ≡ refused n → (refused n ≡ map_reading quadratic g s field page) × (page ≡ map_page quadratic g s field page)

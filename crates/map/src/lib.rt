@@ -9,7 +9,7 @@ ghost use Rattle.rules.specs.Answers.{answers};
 use field_layout::Grid;
 use rules::{Refusal, Shape};
 
-// A tracer's page at the front of the buffer, and its bytes. The checks after the page's length are those of the tracer's total.
+// A tracer's page at the front of the buffer, and its bytes. The checks after the page's length are those of the tracer's sum.
 pub fn map(page: &mut [u8], field: &[u32], shape: Shape, tracer: usize) -> Result<u64, Refusal>
     ensures { MapGives quadratic shape tracer field.now page.old (answers result) page.new }
 {
@@ -17,7 +17,7 @@ pub fn map(page: &mut [u8], field: &[u32], shape: Shape, tracer: usize) -> Resul
     if page.len() < map_lines::page_length(grid) {
         return Err(Refusal::ShortBuffer);
     }
-    let sum = field::total_on(field, grid, tracer)?;
+    let sum = field::sum_on(field, grid, tracer)?;
     let end = map_lines::page(page, field, grid, tracer, sum);
     Ok(end as u64) // by `as`: std has no `From` from usize to u64, and a `try_from` would add an unwrap that can never fail
 }

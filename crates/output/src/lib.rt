@@ -20,7 +20,7 @@ const TEXT: usize = 200_000;
 // The buffers that the program lends, which document 01 wants for exactly 128 elements and eight smokes: their types say how long they are.
 #[derive(Drop)]
 struct Buffers {
-    field: [u32; SMOKES * ELEMENTS * NUMBERS],
+    field: [u32; SMOKES * (ELEMENTS * NUMBERS + 1)],
     wind: [i16; 2 * ELEMENTS],
     report: [i32; 2 * ELEMENTS],
     work: [i64; 64 * ELEMENTS],
@@ -91,7 +91,7 @@ pub fn print(file: &[u8], out: &mut [u8]) -> usize
 {
     let mut text = [0u8; TEXT];
     let mut buffers = Buffers {
-        field: [0; SMOKES * ELEMENTS * NUMBERS],
+        field: [0; SMOKES * (ELEMENTS * NUMBERS + 1)],
         wind: [0; 2 * ELEMENTS],
         report: [0; 2 * ELEMENTS],
         work: [0; 64 * ELEMENTS],

@@ -1,6 +1,5 @@
 -- The pages of a field that was read: no map of it is refused, each is added behind the one before, and there is room for all.
 use mathlib.Core.Path.{◌≡◌, sym, subst, ◌∙◌}
-use mathlib.Core.Bool.{Bool, true, false}
 use mathlib.Core.List.{List}
 use Prim.Native.Nat.{ℕ, ◌+◌, ◌*◌, ◌≤◌, ◌<◌}
 use native.Mathlib.Nat.{mul-add, mul_assoc, mul-le-mul, mul-le-mul_right}
@@ -9,27 +8,23 @@ use native.Mathlib.Omega.{arith}
 use lib.Dec.{T, leb, ltb, le→leb, lt→ltb}
 use lib.IntN.{ℤ}
 use lib.ListN.{length}
+use Rattle.whole.proofs.Cases.{both}
 use Rattle.whole.proofs.SumLaws.{all-at}
 use Rattle.rules.specs.declared.Shape.{Shape}
 use Rattle.rules.specs.Answers.{accepted, refused}
 use Rattle.rules.specs.Field.{quadratic, Admitted, elements, faces, field_length, part, sound}
-use Rattle.rules.specs.Calls.{sound_if_there}
 use Rattle.rules.specs.FieldFile.{field_sound, read_field}
 use Rattle.rules.specs.Map.{block_count, page_text, page_length, map_checks, map_reading, map_page}
 use Rattle.rules.proofs.AnswerLaws.{passed-accepts}
 use Rattle.rules.proofs.FieldLaws.{total-small}
+use Rattle.rules.proofs.SoundLaws.{where_there}
 use Rattle.rules.proofs.MapLaws.{page-length}
 use Rattle.field_layout.proofs.PlaceLaws.{is-admitted}
-use Rattle.file_layout.proofs.ReplyLaws.{and_yes, Readable, field-read}
+use Rattle.file_layout.proofs.ReplyLaws.{Readable, field-read}
 use Rattle.file_round_trips.proofs.ReadThenWritten.{new-field-long, new-field-sound}
 use Rattle.map.proofs.CheckLaws.{page-written}
 use Rattle.text.specs.Added.{Added}
 use Rattle.output_maps.specs.SoundField.{SoundField}
-
-sound-if : (g : Shape) (p : List ℕ) (b : Bool) → T (sound quadratic g p) → T (sound_if_there quadratic g b p)
-unfolding sound_if_there
-sound-if g p true t = t
-sound-if g p false t = tt
 
 module _ (g : Shape) (a : Admitted g) (field : List ℕ) (h : SoundField g field) (s : ℕ) (there : s < g.tracers) where
   abbrev text : List ℕ
@@ -46,7 +41,7 @@ module _ (g : Shape) (a : Admitted g) (field : List ℕ) (h : SoundField g field
   accepts : (page : List ℕ) → page_length g ≤ length page → map_reading quadratic g s field page ≡ accepted (length text)
   unfolding map_reading
   accepts page room = passed-accepts (map_checks quadratic g s field page) (length text)
-      (rw (is-admitted g a) tt, (and_yes (leb (field_length quadratic g) (length field)) (leb (page_length g) (length page)) (le→leb _ _ h.room) (le→leb _ _ room), (sound-if g (part quadratic g s field) (ltb s g.tracers) sound-part, (lt→ltb _ _ there, tt))))
+      (rw (is-admitted g a) tt, (both (leb (field_length quadratic g) (length field)) (leb (page_length g) (length page)) (le→leb _ _ h.room) (le→leb _ _ room), (where_there (ltb s g.tracers) (sound quadratic g (part quadratic g s field)) (λ _. sound-part), (lt→ltb _ _ there, tt))))
 
   module _ (out : List ℕ) (room : page_length g ≤ length out) where
     pub never-refused : {A : Type 0} (n : ℕ) → refused n ≡ map_reading quadratic g s field out → A

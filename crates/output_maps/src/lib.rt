@@ -57,7 +57,7 @@ pub fn print(file: &[u8], out: &mut [u8]) -> usize
     ensures prefix_len { IsPrefixLen result out.new }
     ensures out_after { out.new ≡ overwrite 0 (map_output file.now) out.old }
 {
-    let mut field = [0u32; SMOKES * ELEMENTS * NUMBERS];
+    let mut field = [0u32; SMOKES * (ELEMENTS * NUMBERS + 1)];
     let mut wind = [0i16; 2 * ELEMENTS];
     match program_file::read(file, &mut field, &mut wind) {
         Err(r) => program_file::refusal(out, r),

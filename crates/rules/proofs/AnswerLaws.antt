@@ -1,11 +1,13 @@
 -- An answer from checks: refused, or accepted with every check passed.
-use mathlib.Core.Path.{◌≡◌, refl, ap, ◌∙◌}
+use mathlib.Core.Path.{◌≡◌, refl, ap, subst, ◌∙◌}
 use mathlib.Core.Bool.{Bool, true, false, cond}
 use mathlib.Core.List.{List, [], ◌∷◌, ◌++◌}
-use Prim.Native.Nat.{ℕ, ◌≤◌}
+use mathlib.Core.Logic.{◌≢◌}
+use Prim.Native.Nat.{ℕ, zero, suc, ◌≤◌}
 use native.Mathlib.Omega.{arith}
-use lib.Dec.{T}
-use Rattle.whole.proofs.Cases.{cond_yes}
+use lib.Dec.{T, eqb}
+use Rattle.whole.specs.Table.{blocks}
+use Rattle.whole.proofs.Cases.{cond_yes, eqb_of}
 use Rattle.std.specs.Prelude.{Result}
 use Rattle.std.specs.Result.{IsErrAnd}
 use Rattle.std.proofs.lemmas.Result.{err_from_is_err_and}
@@ -63,6 +65,30 @@ passed-prefix cs ds x ps = prefix-accepted cs ds x x x (passed-accepts cs x ps)
 pub passed-both : (cs ds : List Check) → Passed cs → Passed ds → Passed (cs ++ ds)
 passed-both [] ds ps qs = qs
 passed-both (c ∷ cs) ds ps qs = (ps.0, passed-both cs ds ps.1 qs)
+
+-- ---- an answer that is no refusal by n
+-- every check of number n is passed
+abbrev pub PassedAt : ℕ → List Check → Type 0
+PassedAt n [] = Unit {0}
+PassedAt n (c ∷ cs) = T (cond (eqb c.number n) c.passes true) × PassedAt n cs
+
+pub not-refused : {A : Type 0} (n : ℕ) (cs : List Check) (x : A) → PassedAt n cs → answer cs x ≢ refused n
+unfolding answer
+not-refused n [] x ps e = let z : ◌≡◌ {A = ℕ} 0 1 = cc in absurd (omega arith)
+not-refused n (c ∷ cs) x ps e = go c.passes ps.0 (not-refused n cs x ps.1) e
+  where
+    go : (b : Bool) → T (cond (eqb c.number n) b true) → answer cs x ≢ refused n → cond b (answer cs x) (refused c.number) ≢ refused n
+    go true t ih h = ih h
+    go false t ih h = let q : c.number ≡ n = cc in subst T (cond_yes (eqb c.number n) false true (eqb_of q)) t
+
+pub passed_at-append : (n : ℕ) (cs ds : List Check) → PassedAt n cs → PassedAt n ds → PassedAt n (cs ++ ds)
+passed_at-append n [] ds ps qs = qs
+passed_at-append n (c ∷ cs) ds ps qs = (ps.0, passed_at-append n cs ds ps.1 qs)
+
+pub passed_at-blocks : (n k : ℕ) (f : ℕ → List Check) → ((i : ℕ) → PassedAt n (f i)) → PassedAt n (blocks k f)
+unfolding blocks
+passed_at-blocks n zero f h = tt
+passed_at-blocks n (suc k) f h = passed_at-append n (blocks k f) (f k) (passed_at-blocks n k f h) (h k)
 
 -- ---- an answer of which f is told
 module _ {A B : Type 0} (f : A → B) where

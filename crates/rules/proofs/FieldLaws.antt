@@ -5,31 +5,55 @@ use mathlib.Core.List.{List, ◌∷◌}
 use mathlib.Core.Logic.{◌≢◌}
 use Prim.Native.Nat.{ℕ, ◌+◌, ◌*◌, ◌≤◌, ◌<◌}
 use native.Mathlib.Omega.{arith}
-use lib.Dec.{T, leb, ltb, leb→le, le→leb, ltb→lt}
+use lib.Dec.{T, eqb, leb, ltb, eqb→eq, leb→le, le→leb, ltb→lt}
 use lib.ListN.{length}
 use Rattle.whole.specs.Sum.{all}
 use Rattle.whole.proofs.Cases.{true_of, both_yes}
 use Rattle.whole.proofs.OverwriteLaws.{part_room, length-replaced, part_same, part-other}
 use Rattle.rules.specs.declared.Shape.{Shape}
 use Rattle.rules.specs.Answers.{Answer, accepted, refused, check, answer, after}
-use Rattle.rules.specs.Field.{Kind, admitted, elements, part_length, field_length, part, with_part, remainder, weight_sum, total, limit, sound, Admitted}
-use Rattle.rules.specs.Calls.{Operation, load, emission, withdrawal, step, Lent, lent_enough, sound_if_there, Reply, Done, done, checks, call, call_checks}
+use Rattle.rules.specs.Field.{Kind, admitted, elements, part_length, field_length, part, with_part, element, on_grid, stored_total, remainder, weight_sum, mass, total, limit, remainder_sound, sum_sound, sound, stored_sound, element_sound, named_sound, if_there, Admitted}
+use Rattle.rules.specs.Calls.{Operation, load, emission, withdrawal, step, Lent, lent_enough, Reply, Done, done, checks, call, call_checks}
 use Rattle.rules.proofs.AnswerLaws.{Passed, answer-ind}
 use Rattle.rules.proofs.PartLaws.{length-part}
 use Rattle.rules.proofs.CallLaws.{done-length}
 use Rattle.rules.proofs.ShapeLaws.{ranges}
 
--- ---- what a sound tracer says
-module _ (κ : Kind) (g : Shape) (p : List ℕ) where
-  pub total-small : T (sound κ g p) → total κ g p ≤ limit
-  unfolding sound
-  total-small t = leb→le _ _ (both_yes (all (elements g) (λ e. ltb (remainder κ p e) (weight_sum κ))) (leb (total κ g p) limit) t).1
+-- a test of what is there has been made
+pub tested : (there test : Bool) → T there → T (if_there there test) → T test
+unfolding if_there
+tested true test t h = h
+tested false test t h = absurd t
 
-  -- a tracer that is there has passed the check
-  pub sound-there : (b : Bool) → T b → T (sound_if_there κ g b p) → T (sound κ g p)
-  unfolding sound_if_there
-  sound-there true t h = h
-  sound-there false t h = absurd t
+-- ---- what the tests for 6 say
+module _ (κ : Kind) (g : Shape) (p : List ℕ) where
+  pub elements-small : T (sum_sound κ g p) → total κ g p ≤ limit
+  unfolding sum_sound
+  elements-small t = leb→le _ _ (both_yes (all (elements g) (remainder_sound κ p)) (leb (total κ g p) limit) t).1
+
+  -- of all numbers: the sum is the stored total
+  pub summed : T (sound κ g p) → (total κ g p ≤ limit) × (total κ g p ≡ stored_total κ g p)
+  unfolding sound
+  summed t =
+      let b = both_yes (sum_sound κ g p) (eqb (total κ g p) (stored_total κ g p)) t in
+      (elements-small b.0, eqb→eq _ _ b.1)
+
+  pub total-small : T (sound κ g p) → total κ g p ≤ limit
+  total-small t = (summed t).0
+
+  -- of the stored total, and of an element that is there
+  pub stored-small : T (stored_sound κ g p) → stored_total κ g p ≤ limit
+  unfolding stored_sound
+  stored-small t = leb→le _ _ t
+
+  pub named : (i j : ℕ) → T (named_sound κ g i j p) → T (on_grid g i j)
+      → (stored_total κ g p ≤ limit) × (remainder κ p (element g i j) < weight_sum κ) × (mass κ p (element g i j) ≤ stored_total κ g p)
+  unfolding named_sound element_sound
+  named i j t on =
+      let e = element g i j in
+      let b = both_yes (stored_sound κ g p) (if_there (on_grid g i j) (element_sound κ g p e)) t in
+      let d = both_yes (remainder_sound κ p e) (leb (mass κ p e) (stored_total κ g p)) (tested (on_grid g i j) (element_sound κ g p e) on b.1) in
+      (stored-small b.0, ltb→lt _ _ d.0, leb→le _ _ d.1)
 
 -- an operation that passes names a tracer that is there
 there-of : (κ : Kind) (g : Shape) (op : Operation Lent) (there : Bool) (p : List ℕ) → Passed (checks κ g op there p) → T there

@@ -9,7 +9,7 @@ use Rattle.whole.specs.Parts.{positive}
 use Rattle.whole.specs.Sum.{sum, sum_ℤ}
 use Rattle.whole.specs.Table.{table, blocks, at}
 use Rattle.rules.specs.declared.Shape.{Shape}
-use Rattle.rules.specs.Field.{quadratic, weight_sum, weighted, cell, remainder, mass, element_length}
+use Rattle.rules.specs.Field.{quadratic, weight_sum, weighted, stored_total, part_of, cell, remainder, mass, element_length, elements_length}
 use Rattle.rules.specs.Grid.{east, west, north, south, behind, ahead}
 use Rattle.rules.specs.Limiter.{mean_shift, adjusted, truncated, clipped, rescaled, rescaled_value, closing_remainder, closed_unlevelled, closed}
 use Rattle.rules.specs.Stages.{upwind, place_wind, advection, along_x, along_y, tendency, tabulated, stage0, stage1, stage2, tentative, flux_of, face_sum, stages, flux}
@@ -26,12 +26,12 @@ abbrev wind : ℕ → ℤ
 wind = at (pos 1024 ∷ pos 1024 ∷ pos 0 ∷ pos 0 ∷ [])
 
 abbrev part : List ℕ
-part = 0 ∷ 0 ∷ 40 ∷ 0 ∷ 0 ∷ 40 ∷ 0 ∷ 0 ∷ 40 ∷ 0 ∷ replicate 10 0
+part = 0 ∷ 0 ∷ 40 ∷ 0 ∷ 0 ∷ 40 ∷ 0 ∷ 0 ∷ 40 ∷ 0 ∷ (replicate 10 0 ++ (240 ∷ []))
 
 -- what is left: only the east element's numbers, three alike rows and the remainder, and the clipped mass differ
 abbrev left : ℕ → ℕ → ℕ → ℕ → Stepped
 left west centre ρ clipped = record {
-  part = replicate 9 0 ++ (1 ∷ west ∷ centre ∷ 0 ∷ west ∷ centre ∷ 0 ∷ west ∷ centre ∷ 0 ∷ ρ ∷ []);
+  part = replicate 9 0 ++ (1 ∷ west ∷ centre ∷ 0 ∷ west ∷ centre ∷ 0 ∷ west ∷ centre ∷ 0 ∷ ρ ∷ 240 ∷ []);
   report = pos 217 ∷ negsuc 21 ∷ pos 0 ∷ pos 0 ∷ [];
   clipped = clipped;
 }
@@ -39,5 +39,5 @@ left west centre ρ clipped = record {
 pub with-and-without : tracer_step quadratic shape wind part ∷ step_without_held_flux quadratic shape wind part ∷ [] ≡ left 22 3 35 144 ∷ left 25 3 17 120 ∷ []
 unfolding tracer_step step_without_held_flux stages stage0 stage1 stage2 tentative tabulated tendency along_x along_y advection place_wind upwind flux flux_of face_sum fluxes report donor outflow limited_flux cut with_sign
     node_rise face_rise with_held_flux closed_element finish target closed closed_unlevelled clipped adjusted mean_shift truncated rescaled rescaled_value closing_remainder east west north south behind ahead
-    cell remainder mass weighted weight_sum quadratic element_length nearest nearest_natural sum sum_ℤ table blocks positive
+    part_of stored_total cell remainder mass weighted weight_sum quadratic element_length elements_length nearest nearest_natural sum sum_ℤ table blocks positive
 with-and-without = refl

@@ -6,6 +6,8 @@ pub mod ClippedLaws
 pub mod GridLaws
 pub mod CorrectionLaws
 pub mod PartLaws
+pub mod StoredLaws
+pub mod NamedLaws
 pub mod LedgerLaws
 pub mod AnswerLaws
 pub mod RisingLaws
@@ -13,6 +15,7 @@ pub mod StepLaws
 pub mod HeldLaws
 pub mod CallLaws
 pub mod FieldLaws
+pub mod SoundLaws
 pub mod TextLaws
 pub mod MapLaws
 pub mod PlacesOnPage
@@ -24,3 +27,5 @@ pub mod MarkedCases
 pub mod ExactValue
 pub mod RecordCases
 pub mod HeldCases
+pub mod StoredCases
+pub mod FileCases

@@ -13,12 +13,12 @@ use Rattle.whole.proofs.Cases.{cond_ind}
 use Rattle.whole.proofs.OverwriteLaws.{front-is}
 use Rattle.rules.specs.declared.Shape.{Shape}
 use Rattle.rules.specs.Answers.{accepted}
-use Rattle.rules.specs.Field.{Kind, Admitted, element, part, mass, total, limit}
+use Rattle.rules.specs.Field.{Kind, Admitted, element, part, mass, total, limit, sound}
 use Rattle.rules.specs.Text.{decimal, newline, blanks, right_aligned, Lines}
 use Rattle.rules.specs.Map.{column_of, block_count, column_text, block_line, header_line, sum_word, sum_line, row_line, block_text, page_text, page_lines, page_length, map_checks, map_reading, map_page}
 use Rattle.rules.proofs.AnswerLaws.{accepted-is, after-accepted}
 use Rattle.rules.proofs.PartLaws.{mass-le-total}
-use Rattle.rules.proofs.FieldLaws.{total-small, sound-there}
+use Rattle.rules.proofs.FieldLaws.{total-small, tested}
 use Rattle.rules.proofs.GridLaws.{element-lt}
 use Rattle.rules.proofs.ShapeLaws.{ranges}
 use Rattle.rules.proofs.TextLaws.{Character, Characters, characters-append, characters-repeated, characters-blanks, characters-blocks, characters-number, one_line, lines-append, lines-blocks}
@@ -120,7 +120,7 @@ module _ (κ : Kind) (g : Shape) (s : ℕ) (field page : List ℕ) where
       let passed = answered.0 in
       record {
         shape = ranges g passed.0;
-        small = total-small κ g (part κ g s field) (sound-there κ g (part κ g s field) (ltb s g.tracers) passed.1.1.1.0 passed.1.1.0);
+        small = total-small κ g (part κ g s field) (tested (ltb s g.tracers) (sound κ g (part κ g s field)) passed.1.1.1.0 passed.1.1.0);
         number = answered.1;
       }
 

@@ -1,5 +1,5 @@
 -- A tracer's part: its numbers, masses and total, after its elements are made anew or one of them is replaced.
-use mathlib.Core.Path.{◌≡◌, refl, sym, ap, ap₂, ◌∙◌}
+use mathlib.Core.Path.{◌≡◌, sym, ap, ap₂, ◌∙◌}
 use mathlib.Core.List.{List, [], ◌∷◌}
 use mathlib.Core.Logic.{◌≢◌}
 use Prim.Native.Nat.{ℕ, ◌+◌, ◌*◌, ◌≤◌, ◌<◌}
@@ -11,17 +11,18 @@ use lib.Seq.{length-take-le, get_or_at}
 use Rattle.whole.specs.Sum.{sum, sum_ℤ}
 use Rattle.whole.specs.Table.{table, blocks}
 use Rattle.whole.proofs.SumLaws.{sum-cong, sum-pos, sum_ℤ-cong, term-le}
-use Rattle.whole.proofs.TableLaws.{length-table, get_d-table, length-blocks, get_d-blocks}
+use Rattle.whole.proofs.TableLaws.{length-table, get_d-table, get_d-blocks}
 use Rattle.whole.proofs.OverwriteLaws.{part_room, number_same, number-other, length-replaced}
 use Rattle.rules.specs.declared.Shape.{Shape}
-use Rattle.rules.specs.Field.{Kind, elements, element_length, part_length, field_length, part, cell, remainder, weighted, mass, total, limit, weight_sum, elements_length}
-use Rattle.rules.specs.Calls.{loaded, loaded_element, loaded_value, with_element}
+use Rattle.rules.specs.Field.{Kind, elements, element_length, elements_length, part_length, field_length, part, stored_total, cell, remainder, weighted, mass, total, limit, weight_sum}
+use Rattle.rules.specs.Calls.{loaded_element, loaded_value, with_element}
 
--- what demand 3 says of a tracer's part: its length, its remainders, its total
+-- what demand 3 says of a tracer's part: its length, its remainders, its total, also as it is stored
 pub record Good (κ : Kind) (g : Shape) (p : List ℕ) : Type 0 where
   pub size : length p ≡ part_length κ g
   pub small : (e : ℕ) → e < elements g → remainder κ p e < weight_sum κ
   pub bounded : total κ g p ≤ limit
+  pub stored : stored_total κ g p ≡ total κ g p
 
 -- what an element of these numbers holds
 unfoldable pub held : Kind → List ℕ → ℕ
@@ -69,8 +70,8 @@ module _ (κ : Kind) (n : ℕ) (f : ℕ → List ℕ) (each : (e : ℕ) → leng
 -- ---- a part in which element e was replaced
 module _ (κ : Kind) (g : Shape) (e : ℕ) (x p : List ℕ) (he : e < elements g) (width : length x ≡ element_length κ) (size : length p ≡ part_length κ g) where
   room : e * element_length κ + element_length κ ≤ length p
-  unfolding part_length
-  room = omega (arith, part_room (element_length κ) he)
+  unfolding part_length elements_length
+  room = omega (arith, size, part_room (element_length κ) he)
 
   pub length-with_element : length (with_element κ e x p) ≡ part_length κ g
   unfolding with_element
@@ -96,34 +97,21 @@ module _ (κ : Kind) (g : Shape) (e : ℕ) (x p : List ℕ) (he : e < elements g
   pub remainder-elsewhere : (e' : ℕ) → e ≢ e' → remainder κ (with_element κ e x p) e' ≡ remainder κ p e'
   remainder-elsewhere e' ne = remainder-same κ (with_element κ e x p) p e' (cell-elsewhere e' ne)
 
--- ---- a loaded element, and a loaded part
+-- ---- a loaded element
 module _ (κ : Kind) (numbers : List ℕ) where
   pub length-loaded-element : (e : ℕ) → length (loaded_element κ numbers e) ≡ element_length κ
   unfolding element_length loaded_element
   length-loaded-element e = length-append (table κ.nodes (loaded_value κ numbers e)) (0 ∷ []) ∙ omega (arith, length-table κ.nodes (loaded_value κ numbers e))
 
-  loaded-element-remainder : (e : ℕ) → get_or (loaded_element κ numbers e) κ.nodes 0 ≡ 0
+  pub loaded-element-remainder : (e : ℕ) → get_or (loaded_element κ numbers e) κ.nodes 0 ≡ 0
   unfolding loaded_element
   loaded-element-remainder e = get_or_at (table κ.nodes (loaded_value κ numbers e)) 0 [] 0 κ.nodes (length-table κ.nodes (loaded_value κ numbers e))
 
-  held-loaded-element : (e : ℕ) → held κ (loaded_element κ numbers e) ≡ weighted κ (loaded_value κ numbers e)
+  pub held-loaded-element : (e : ℕ) → held κ (loaded_element κ numbers e) ≡ weighted κ (loaded_value κ numbers e)
   unfolding held weighted loaded_element
   held-loaded-element e = ap₂ ◌+◌ (sum-cong κ.nodes (λ k. κ.weight k * get_or (loaded_element κ numbers e) k 0) (λ k. κ.weight k * loaded_value κ numbers e k)
       (λ k h. ap (λ y. κ.weight k * y) (get_or-append (table κ.nodes (loaded_value κ numbers e)) (0 ∷ []) 0 k (omega (arith, length-table κ.nodes (loaded_value κ numbers e)))
       ∙ get_d-table κ.nodes (loaded_value κ numbers e) k 0 h))) (loaded-element-remainder e) ∙ add-zero (sum κ.nodes (λ k. κ.weight k * loaded_value κ numbers e k))
-
-module _ (κ : Kind) (g : Shape) (numbers : List ℕ) where
-  pub length-loaded : length (loaded κ g numbers) ≡ part_length κ g
-  unfolding loaded part_length
-  length-loaded = length-blocks (element_length κ) (loaded_element κ numbers) (length-loaded-element κ numbers) (elements g)
-
-  pub mass-loaded : (e : ℕ) → e < elements g → mass κ (loaded κ g numbers) e ≡ weighted κ (loaded_value κ numbers e)
-  unfolding loaded
-  mass-loaded e h = mass-blocks κ (elements g) (loaded_element κ numbers) (length-loaded-element κ numbers) e h ∙ held-loaded-element κ numbers e
-
-  pub remainder-loaded : (e : ℕ) → e < elements g → remainder κ (loaded κ g numbers) e ≡ 0
-  unfolding loaded
-  remainder-loaded e h = remainder-blocks κ (elements g) (loaded_element κ numbers) (length-loaded-element κ numbers) e h ∙ loaded-element-remainder κ numbers e
 
 -- ---- totals, and the sizes of what is stored
 module _ (κ : Kind) (p : List ℕ) where
@@ -150,10 +138,6 @@ module _ (κ : Kind) (g : Shape) (p : List ℕ) where
   value-le-limit h e k he hk w = omega (arith, value-le-mass κ p e k hk w, mass-le-total e he, h.bounded)
 
 -- ---- the parts of a field that is long enough
-pub part-is-elements : (κ : Kind) (g : Shape) → part_length κ g ≡ elements_length κ g
-unfolding part_length
-part-is-elements κ g = refl
-
 pub length-part : (κ : Kind) (g : Shape) (s : ℕ) (field : List ℕ) → s < g.tracers → field_length κ g ≤ length field → length (part κ g s field) ≡ part_length κ g
 unfolding part field_length
 length-part κ g s field h r = length-take-le (part_length κ g) (drop (s * part_length κ g) field)

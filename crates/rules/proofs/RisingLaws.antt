@@ -1,6 +1,6 @@
 -- "Checks run in rising number": so are the checks of every call of document 01, and those of a map. (An import's checks go record by record, by document 02.)
 use mathlib.Core.Path.{◌≡◌, refl}
-use mathlib.Core.Bool.{true}
+use mathlib.Core.Bool.{Bool, true}
 use mathlib.Core.List.{List}
 use Prim.Native.Nat.{ℕ}
 use lib.IntN.{ℤ}
@@ -8,7 +8,7 @@ use Rattle.rules.specs.declared.Shape.{Shape}
 use Rattle.rules.specs.declared.Face.{Face}
 use Rattle.rules.specs.Answers.{rising}
 use Rattle.rules.specs.Field.{Kind}
-use Rattle.rules.specs.Calls.{Operation, load, emission, withdrawal, step, Lent, checks, call_checks, mass_checks, total_checks, fresh_checks, wind_checks, one_face}
+use Rattle.rules.specs.Calls.{Operation, load, emission, withdrawal, step, Lent, checks, call_checks, mass_checks, part_checks, fresh_checks, wind_checks, one_face}
 use Rattle.rules.specs.FieldFile.{read_checks, write_checks}
 use Rattle.rules.specs.Map.{map_checks}
 
@@ -24,9 +24,9 @@ module _ (κ : Kind) (g : Shape) (field : List ℕ) (wind : List ℤ) where
   unfolding rising
   mass-rising s i j = refl
 
-  total-rising : (s : ℕ) → rising 0 (total_checks κ g s field) ≡ true
+  part-rising : (test : List ℕ → Bool) (s : ℕ) → rising 0 (part_checks κ g test s field) ≡ true
   unfolding rising
-  total-rising s = refl
+  part-rising test s = refl
 
   map-rising : (s : ℕ) (page : List ℕ) → rising 0 (map_checks κ g s field page) ≡ true
   unfolding rising

@@ -13,10 +13,10 @@ use Rattle.whole.specs.Sum.{sum_ℤ}
 use Rattle.whole.specs.Table.{table, at}
 use Rattle.whole.proofs.WholeLaws.{pos-positive, pos-injective}
 use Rattle.whole.proofs.SumLaws.{sum_ℤ-cong}
-use Rattle.whole.proofs.TableLaws.{length-table, get_d-table, length-blocks}
+use Rattle.whole.proofs.TableLaws.{length-table, get_d-table}
 use Rattle.whole.proofs.Cases.{cond_ind}
 use Rattle.rules.specs.declared.Shape.{Shape}
-use Rattle.rules.specs.Field.{Kind, elements, faces, element_length, part_length, remainder, mass, total, limit, weight_sum}
+use Rattle.rules.specs.Field.{Kind, elements, faces, element_length, part_length, stored_total, remainder, mass, total, limit, weight_sum}
 use Rattle.rules.specs.Limiter.{closed, closed_unlevelled, adjusted}
 use Rattle.rules.specs.Grid.{behind, ahead}
 use Rattle.rules.specs.Correction.{donor, outflow, limited_flux, cut, target}
@@ -25,7 +25,8 @@ use Rattle.rules.specs.Ledger.{only, carried}
 use Rattle.rules.proofs.LimiterLaws.{closed-length, closed-remainder, closed-holds, levelled-remainder}
 use Rattle.rules.proofs.GridLaws.{moved, target_is, behind-lt, ahead-lt}
 use Rattle.rules.proofs.CorrectionLaws.{limited, limited-le, target-negative}
-use Rattle.rules.proofs.PartLaws.{Good, held, mass-blocks, remainder-blocks, mass-le-total, total-by, total-pos}
+use Rattle.rules.proofs.PartLaws.{Good, held, mass-le-total, total-by, total-pos}
+use Rattle.rules.proofs.StoredLaws.{mass-made, length-made, remainder-made, stored-made}
 use Rattle.rules.proofs.LedgerLaws.{carried-sum, carried_keeps}
 
 -- a closed element holds its target
@@ -90,18 +91,28 @@ module _ (κ : Kind) (g : Shape) (p : List ℕ) (G : List ℤ) where
     abbrev after : List ℕ
     after = (finish κ g p r ψ).part
 
+    abbrev numbers : ℕ → List ℕ
+    numbers e = (closed κ (ψ e) (goal e)).numbers
+
+    each : (e : ℕ) → length (numbers e) ≡ element_length κ
+    each e = length-closed κ (ψ e) (goal e)
+
     pub mass-after : (e : ℕ) → e < elements g → mass κ after e ≡ goal e
     unfolding finish closed_element
-    mass-after e h = mass-blocks κ (elements g) (λ e. (closed κ (ψ e) (goal e)).numbers) (λ e. length-closed κ (ψ e) (goal e)) e h ∙ held-closed κ (ψ e) (goal e)
+    mass-after e h = mass-made κ g numbers (stored_total κ g p) each e h ∙ held-closed κ (ψ e) (goal e)
 
     pub length-after : length after ≡ part_length κ g
-    unfolding finish closed_element part_length
-    length-after = length-blocks (element_length κ) (λ e. (closed κ (ψ e) (goal e)).numbers) (λ e. length-closed κ (ψ e) (goal e)) (elements g)
+    unfolding finish closed_element
+    length-after = length-made κ g numbers (stored_total κ g p) each
 
     remainder-after : 0 < weight_sum κ → (e : ℕ) → e < elements g → remainder κ after e < weight_sum κ
     unfolding finish closed_element
-    remainder-after hw e h = subst (λ x. x < weight_sum κ) (sym (remainder-blocks κ (elements g) (λ e. (closed κ (ψ e) (goal e)).numbers) (λ e. length-closed κ (ψ e) (goal e)) e h))
-        (remainder-closed κ (ψ e) (goal e) hw)
+    remainder-after hw e h = subst (λ x. x < weight_sum κ) (sym (remainder-made κ g numbers (stored_total κ g p) each e h)) (remainder-closed κ (ψ e) (goal e) hw)
+
+    -- document 02, 2026-06: "a step leaves it"
+    pub stored-after : stored_total κ g after ≡ stored_total κ g p
+    unfolding finish closed_element
+    stored-after = stored-made κ g numbers (stored_total κ g p) each
 
     module _ (hx : 0 < g.nx) (hy : 0 < g.ny) where
       -- the ledger, going through the report, agrees
@@ -114,5 +125,5 @@ module _ (κ : Kind) (g : Shape) (p : List ℕ) (G : List ℤ) where
       total-after = pos-injective (total-by κ g after (carried g (at r) (faces g) (λ e. pos (mass κ p e))) entries-after
           ∙ carried_keeps g hx hy (at r) (λ e. pos (mass κ p e)) (faces g) (le_refl (faces g)) ∙ total-pos κ g p)
 
-      pub good-after : 0 < weight_sum κ → total κ g p ≤ limit → Good κ g after
-      good-after hw b = record { size = length-after; small = remainder-after hw; bounded = subst (λ x. x ≤ limit) (sym total-after) b }
+      pub good-after : 0 < weight_sum κ → total κ g p ≤ limit → stored_total κ g p ≡ total κ g p → Good κ g after
+      good-after hw b t = record { size = length-after; small = remainder-after hw; bounded = subst (λ x. x ≤ limit) (sym total-after) b; stored = stored-after ∙ t ∙ sym total-after }

@@ -1,7 +1,7 @@
--- Document 01, "Calls on a field" and "Who meets which refusal", and of document 02 the import of 2026-01 and the clipped mass of 2026-04: what each
--- call answers, and what it leaves in its buffers.
+-- Document 01, "Calls on a field" and "Who meets which refusal", and of document 02 the import of 2026-01, the clipped mass of 2026-04 and the stored
+-- total of 2026-06: what each call answers, and what it leaves in its buffers.
 use Rattle.std.specs.Prelude.{◌≡◌, Bool, ◌&&◌, ℕ, ◌+◌, ◌*◌, ◌-◌, leb, ltb, ℤ, length, get_or, replicate, drop}
-use Rattle.std.proofs.Math.Bool.{true, cond}
+use Rattle.std.proofs.Math.Bool.{true}
 use mathlib.Core.List.{List, [], ◌∷◌, ◌++◌}
 use Rattle.std.proofs.Math.IntN.{pos}
 use Rattle.std.proofs.Math.ListN.{set}
@@ -10,7 +10,7 @@ use Rattle.whole.specs.Table.{table, blocks, overwrite}
 use Rattle.rules.specs.declared.Shape.{Shape}
 use Rattle.rules.specs.declared.Face.{Face}
 use Rattle.rules.specs.Answers.{Answer, accepted, refused, Check, check, answer, after, mapped}
-use Rattle.rules.specs.Field.{Kind, admitted, elements, faces, work_needed, element, on_grid, element_length, field_length, part, with_part, cell, mass, total, limit, sound, wind_in_range}
+use Rattle.rules.specs.Field.{Kind, admitted, elements, faces, work_needed, element, on_grid, element_length, field_length, part, with_part, stored_total, part_of, with_stored_total, cell, mass, total, limit, sound, stored_sound, named_sound, if_there, wind_in_range}
 use Rattle.rules.specs.WindRecords.{all_record_checks, record_winds}
 use Rattle.rules.specs.Limiter.{Closed, closed, closed_unlevelled}
 use Rattle.rules.specs.Grid.{face_index}
@@ -97,7 +97,7 @@ module _ (κ : Kind) where
   unfoldable pub loaded_value : List ℕ → ℕ → ℕ → ℕ
   loaded_value numbers e k = get_or numbers (e * κ.nodes + k) 0
 
-  -- the numbers of element e after a load: "nine u32 per element ..; ρ becomes 0"
+  -- the numbers of element e after a load: "nine u32 per element .. and ρ becomes 0"
   unfoldable pub loaded_element : List ℕ → ℕ → List ℕ
   unfolding loaded_value table
   loaded_element numbers e = table κ.nodes (loaded_value numbers e) ++ (0 ∷ [])
@@ -118,21 +118,25 @@ module _ (κ : Kind) where
   withdrawn e q p = closed_unlevelled κ (λ k. pos (cell κ p e k)) (mass κ p e - q)
 
 module _ (κ : Kind) (g : Shape) where
-  -- "Load: nine u32 per element for one smoke ..; every element is replaced and ρ becomes 0"
+  -- "Load: nine u32 per element for one smoke .. every element is replaced and ρ becomes 0"; document 02, 2026-06: the stored total becomes "the new
+  -- sum"
   unfoldable pub loaded : List ℕ → List ℕ
-  unfolding loaded_element blocks
-  loaded numbers = blocks (elements g) (loaded_element κ numbers)
+  unfolding loaded_element blocks part_of total
+  loaded numbers =
+      let laid = blocks (elements g) (loaded_element κ numbers) in
+      part_of laid (total κ g laid)
 
-  -- element e of a part replaced by what its closing gives: "Emission and withdrawal pass on their closing's figure"
-  abbrev pub closed_in : ℕ → Closed → List ℕ → Done
-  closed_in e c p = record { part = with_element κ e c.numbers p; reply = no_report c.clipped }
+  -- element e of a part replaced by what its closing gives, and the stored total by t: "Emission and withdrawal pass on their closing's figure"
+  abbrev pub closed_in : ℕ → Closed → ℕ → List ℕ → Done
+  closed_in e c t p = record { part = with_stored_total κ g t (with_element κ e c.numbers p); reply = no_report c.clipped }
 
-  -- an accepted operation on a tracer's part
+  -- an accepted operation on a tracer's part; of the stored total, document 02, 2026-06: "emission adds q, withdrawal takes q off". A withdrawal's q is at
+  -- most M by 10, and M at most the stored total by 6
   unfoldable pub done : Operation Lent → List ℕ → Done
-  unfolding loaded with_element emitted withdrawn tracer_step
+  unfolding loaded with_element with_stored_total stored_total emitted withdrawn tracer_step
   done (load numbers) p = record { part = loaded numbers; reply = no_report 0 }
-  done (emission i j q) p = closed_in (element g i j) (emitted κ (element g i j) q p) p
-  done (withdrawal i j q) p = closed_in (element g i j) (withdrawn κ (element g i j) q p) p
+  done (emission i j q) p = closed_in (element g i j) (emitted κ (element g i j) q p) (stored_total κ g p + q) p
+  done (withdrawal i j q) p = closed_in (element g i j) (withdrawn κ (element g i j) q p) (stored_total κ g p - q) p
   done (step l) p =
       let d = tracer_step κ g (wind_at l.wind) p in
       record { part = d.part; reply = record { report = d.report; clipped = d.clipped } }
@@ -144,20 +148,16 @@ module _ (κ : Kind) (g : Shape) where
   lent_enough (withdrawal i j q) = true
   lent_enough (step l) = leb (faces g) (length l.wind) && (leb (faces g) l.report_length && leb (work_needed g) l.work_length)
 
-  -- 6, of the named tracer: one that is not there "has no numbers to search, so it passes here and meets 7"
-  unfoldable pub sound_if_there : Bool → List ℕ → Bool
-  unfolding sound
-  sound_if_there there p = cond there (sound κ g p) true
-
-  -- 5 to 10, for the part p of a tracer that is there or not
+  -- 5 to 10, for the part p of a tracer that is there or not: one that is not there "has no numbers to search, so it passes here and meets 7". 9 of an
+  -- emission counts from the stored total, that of a load from the sum that it lays
   unfoldable pub checks : Operation Lent → Bool → List ℕ → List Check
-  unfolding loaded total sound_if_there mass wind_sound
+  unfolding loaded total if_there sound named_sound stored_total mass wind_sound
   checks (load numbers) there p = check 7 there ∷ check 9 (leb (total κ g (loaded numbers)) limit) ∷ []
   checks (emission i j q) there p =
-      check 6 (sound_if_there there p) ∷ check 7 there ∷ check 8 (on_grid g i j) ∷ check 9 (leb (total κ g p + q) limit) ∷ []
+      check 6 (if_there there (named_sound κ g i j p)) ∷ check 7 there ∷ check 8 (on_grid g i j) ∷ check 9 (leb (stored_total κ g p + q) limit) ∷ []
   checks (withdrawal i j q) there p =
-      check 6 (sound_if_there there p) ∷ check 7 there ∷ check 8 (on_grid g i j) ∷ check 10 (leb q (mass κ p (element g i j))) ∷ []
-  checks (step l) there p = check 5 (wind_sound g l.wind) ∷ check 6 (sound_if_there there p) ∷ check 7 there ∷ []
+      check 6 (if_there there (named_sound κ g i j p)) ∷ check 7 there ∷ check 8 (on_grid g i j) ∷ check 10 (leb q (mass κ p (element g i j))) ∷ []
+  checks (step l) there p = check 5 (wind_sound g l.wind) ∷ check 6 (if_there there (sound κ g p)) ∷ check 7 there ∷ []
 
   -- all checks of a call on tracer s
   abbrev pub call_checks : ℕ → Operation Lent → List ℕ → List Check
@@ -171,20 +171,21 @@ module _ (κ : Kind) (g : Shape) where
       let a = answer (call_checks s op field) d.reply in
       record { reply = a; field = after a (with_part κ g s d.part field) field }
 
-  -- "Readings: an element's M; a smoke's total."
-  abbrev pub total_checks : ℕ → List ℕ → List Check
-  total_checks s field =
-      check 2 (admitted g) ∷ check 4 (leb (field_length κ g) (length field)) ∷ check 6 (sound_if_there (ltb s g.tracers) (part κ g s field)) ∷ check 7 (ltb s g.tracers) ∷ []
+  -- "Readings: an element's M; a smoke's total." 2, 4, 6 and 7, of which 6 asks `test` of tracer s's part
+  abbrev pub part_checks : (List ℕ → Bool) → ℕ → List ℕ → List Check
+  part_checks test s field =
+      check 2 (admitted g) ∷ check 4 (leb (field_length κ g) (length field)) ∷ check 6 (if_there (ltb s g.tracers) (test (part κ g s field))) ∷ check 7 (ltb s g.tracers) ∷ []
 
+  -- a tracer's total, as it is stored
   unfoldable pub total_reading : ℕ → List ℕ → Answer ℕ
-  unfolding answer admitted field_length sound_if_there part total
-  total_reading s field = answer (total_checks s field) (total κ g (part κ g s field))
+  unfolding answer admitted field_length if_there part stored_sound stored_total
+  total_reading s field = answer (part_checks (stored_sound κ g) s field) (stored_total κ g (part κ g s field))
 
   abbrev pub mass_checks : ℕ → ℕ → ℕ → List ℕ → List Check
-  mass_checks s i j field = total_checks s field ++ (check 8 (on_grid g i j) ∷ [])
+  mass_checks s i j field = part_checks (named_sound κ g i j) s field ++ (check 8 (on_grid g i j) ∷ [])
 
   unfoldable pub mass_reading : ℕ → ℕ → ℕ → List ℕ → Answer ℕ
-  unfolding answer admitted field_length sound_if_there part mass
+  unfolding answer admitted field_length if_there part named_sound mass
   mass_reading s i j field = answer (mass_checks s i j field) (mass κ (part κ g s field) (element g i j))
 
   -- "Fresh: writes zeros to field and wind."
@@ -195,7 +196,7 @@ module _ (κ : Kind) (g : Shape) where
   unfolding answer admitted field_length
   fresh_reply field wind = answer (fresh_checks field wind) tt
 
-  -- zeros over the numbers of the shape; surplus stays
+  -- zeros over the numbers of the shape, the stored totals among them: document 02, 2026-06, "Fresh sets it to 0"; surplus stays
   unfoldable pub zero_field : List ℕ → List ℕ
   unfolding overwrite field_length
   zero_field field = overwrite 0 (replicate (field_length κ g) 0) field

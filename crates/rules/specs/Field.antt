@@ -1,6 +1,6 @@
--- Document 01, "Field": shapes, the kind of element, where numbers stand, what an element and a tracer hold.
+-- Document 01, "Field", and document 02, 2026-06: shapes, the kind of element, where numbers stand, what an element and a tracer hold.
 -- A tracer is document 01's smoke; a tracer's part is its numbers in the field buffer.
-use Rattle.std.specs.Prelude.{Bool, ◌&&◌, List, [], ◌∷◌, ℕ, ◌+◌, ◌*◌, ◌/◌, ◌%◌, ◌≤◌, ◌<◌, leb, ltb, ℤ, pos, negsuc, nat_abs, get_or, take, drop}
+use Rattle.std.specs.Prelude.{Bool, true, cond, ◌&&◌, List, [], ◌∷◌, ◌++◌, ℕ, eqb, ◌+◌, ◌*◌, ◌/◌, ◌%◌, ◌≤◌, ◌<◌, leb, ltb, ℤ, pos, negsuc, nat_abs, get_or, take, drop}
 use Rattle.whole.specs.Sum.{sum, all}
 use Rattle.whole.specs.Table.{overwrite}
 use Rattle.rules.specs.declared.Shape.{Shape}
@@ -99,14 +99,15 @@ PositiveWeights κ = (k : ℕ) → k < κ.nodes → 0 < κ.weight k
 unfoldable pub element_length : Kind → ℕ
 element_length κ = κ.nodes + 1
 
--- the numbers of a tracer's elements, and those of its part of the field, which holds nothing else
+-- how many numbers a tracer's elements have, and its part of the field: document 02, 2026-06, "Each smoke gets one u32 more after its last
+-- element, holding its total."
 unfoldable pub elements_length : Kind → Shape → ℕ
 unfolding element_length
 elements_length κ g = elements g * element_length κ
 
 unfoldable pub part_length : Kind → Shape → ℕ
 unfolding elements_length
-part_length κ g = elements_length κ g
+part_length κ g = elements_length κ g + 1
 
 unfoldable pub field_length : Kind → Shape → ℕ
 unfolding part_length
@@ -130,6 +131,18 @@ unfoldable pub remainder : Kind → List ℕ → ℕ → ℕ
 unfolding cell
 remainder κ p e = cell κ p e κ.nodes
 
+-- the total that a part stores, a part made of its elements' numbers and a total, and a part with another total
+unfoldable pub stored_total : Kind → Shape → List ℕ → ℕ
+unfolding elements_length
+stored_total κ g p = get_or p (elements_length κ g) 0
+
+unfoldable pub part_of : List ℕ → ℕ → List ℕ
+part_of numbers t = numbers ++ (t ∷ [])
+
+unfoldable pub with_stored_total : Kind → Shape → ℕ → List ℕ → List ℕ
+unfolding elements_length overwrite
+with_stored_total κ g t p = overwrite (elements_length κ g) (t ∷ []) p
+
 -- ---- what is held
 -- the weighted sum of an element's values
 unfoldable pub weighted : Kind → (ℕ → ℕ) → ℕ
@@ -148,7 +161,36 @@ total κ g p = sum (elements g) (mass κ p)
 abbrev pub limit : ℕ
 limit = 100000000
 
--- document 01, "Who meets which refusal", 6: no "remainder above 35" and no "total above 100,000,000"
-unfoldable pub sound : Kind → Shape → List ℕ → Bool
+-- ---- document 01, "Who meets which refusal", 6, and document 02, 2026-06
+-- no "remainder above 35" in element e
+abbrev pub remainder_sound : Kind → List ℕ → ℕ → Bool
+remainder_sound κ p e = ltb (remainder κ p e) (weight_sum κ)
+
+-- of all elements: no such remainder, and no "total above 100,000,000"
+unfoldable pub sum_sound : Kind → Shape → List ℕ → Bool
 unfolding remainder total weight_sum all
-sound κ g p = all (elements g) (λ e. ltb (remainder κ p e) (weight_sum κ)) && leb (total κ g p) limit
+sum_sound κ g p = all (elements g) (remainder_sound κ p) && leb (total κ g p) limit
+
+-- "Step, the printed map, file reading and file writing still sum, and give 6 where sum and stored total differ."
+unfoldable pub sound : Kind → Shape → List ℕ → Bool
+unfolding sum_sound total stored_total
+sound κ g p = sum_sound κ g p && eqb (total κ g p) (stored_total κ g p)
+
+-- "Emission, withdrawal and the readings look at the named element and the stored total only. They give 6 for that element's remainder above 35, a
+-- stored total above 100,000,000, or an element holding more than it; one off the grid has no numbers."
+unfoldable pub stored_sound : Kind → Shape → List ℕ → Bool
+unfolding stored_total
+stored_sound κ g p = leb (stored_total κ g p) limit
+
+unfoldable pub element_sound : Kind → Shape → List ℕ → ℕ → Bool
+unfolding remainder weight_sum mass stored_total
+element_sound κ g p e = remainder_sound κ p e && leb (mass κ p e) (stored_total κ g p)
+
+-- a test of what may not be there: what is not there "has no numbers", so it passes
+unfoldable pub if_there : Bool → Bool → Bool
+if_there there test = cond there test true
+
+-- of element (i, j) and the stored total
+unfoldable pub named_sound : Kind → Shape → ℕ → ℕ → List ℕ → Bool
+unfolding stored_sound element_sound if_there
+named_sound κ g i j p = stored_sound κ g p && if_there (on_grid g i j) (element_sound κ g p (element g i j))

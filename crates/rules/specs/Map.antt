@@ -4,8 +4,7 @@ use Rattle.std.proofs.Math.Bool.{cond}
 use Rattle.whole.specs.Table.{blocks, overwrite}
 use Rattle.rules.specs.declared.Shape.{Shape}
 use Rattle.rules.specs.Answers.{Answer, Check, check, answer, after}
-use Rattle.rules.specs.Field.{Kind, admitted, element, field_length, part, mass, total}
-use Rattle.rules.specs.Calls.{sound_if_there}
+use Rattle.rules.specs.Field.{Kind, admitted, element, field_length, part, mass, total, sound, if_there}
 use Rattle.rules.specs.Text.{decimal_by, decimal, newline, blanks, right_aligned}
 
 -- ---- the page
@@ -67,14 +66,14 @@ page_length g = page_lines g * 74
 
 -- ---- the call: "It's a reading, and its number is the bytes written."
 module _ (κ : Kind) (g : Shape) (s : ℕ) (field page : List ℕ) where
-  -- 4 of the field and of the page, 6 and 7 as for every reading
+  -- 4 of the field and of the page; document 02, 2026-06: "Step, the printed map, .. still sum", so 6 is of all numbers; 7
   abbrev pub map_checks : List Check
   map_checks =
       check 2 (admitted g) ∷ check 4 (leb (field_length κ g) (length field) && leb (page_length g) (length page))
-      ∷ check 6 (sound_if_there κ g (ltb s g.tracers) (part κ g s field)) ∷ check 7 (ltb s g.tracers) ∷ []
+      ∷ check 6 (if_there (ltb s g.tracers) (sound κ g (part κ g s field))) ∷ check 7 (ltb s g.tracers) ∷ []
 
   unfoldable pub map_reading : Answer ℕ
-  unfolding answer admitted field_length page_length sound_if_there part page_text
+  unfolding answer admitted field_length page_length if_there sound part page_text
   map_reading = answer map_checks (length (page_text κ g (part κ g s field)))
 
   -- the page after it; surplus stays

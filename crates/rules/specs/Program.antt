@@ -1,6 +1,6 @@
 -- Document 01, "Field file", and document 02, 2026-03 and 2026-04: what the programs print, as bytes.
 use Rattle.std.specs.Prelude.{cond, List, [], ◌∷◌, ◌++◌, ltb, ℤ, pos, length, replicate}
-use Prim.Native.Nat.{ℕ, zero, suc, ◌*◌}
+use Prim.Native.Nat.{ℕ, zero, suc, ◌+◌, ◌*◌}
 use Rattle.whole.specs.Table.{blocks, at}
 use Rattle.rules.specs.declared.Shape.{Shape}
 use Rattle.rules.specs.declared.Way.{Way}
@@ -115,11 +115,11 @@ unfolding refused_line
 text_of (accepted text) = text
 text_of (refused n) = refused_line n
 
--- "It lends buffers for exactly 128 elements and eight smokes, so a larger grid gets 4": ten numbers an element and two winds, all
--- zero. Check 4 of file reading sees a larger grid by its winds
+-- "It lends buffers for exactly 128 elements and eight smokes, so a larger grid gets 4": ten numbers an element, one
+-- total a smoke and two winds an element, all zero. Check 4 of file reading sees a larger grid by its winds
 unfoldable pub field_lent : List ℕ
 unfolding element_length
-field_lent = replicate (8 * (128 * element_length quadratic)) 0
+field_lent = replicate (8 * (128 * element_length quadratic + 1)) 0
 
 abbrev pub wind_lent : List ℤ
 wind_lent = replicate (2 * 128) (pos 0)

@@ -1,10 +1,10 @@
--- Document 01, "Step", and document 02, 2026-04 and 2026-05: the step of one tracer, on its part of the field.
+-- Document 01, "Step", and document 02, 2026-04 to 2026-06: the step of one tracer, on its part of the field.
 use Rattle.std.specs.Prelude.{List, ℕ, ℤ, get_or}
 use Rattle.whole.specs.Parts.{positive}
 use Rattle.whole.specs.Sum.{sum}
 use Rattle.whole.specs.Table.{table, blocks, at}
 use Rattle.rules.specs.declared.Shape.{Shape}
-use Rattle.rules.specs.Field.{Kind, elements, faces, mass}
+use Rattle.rules.specs.Field.{Kind, elements, faces, mass, stored_total, part_of}
 use Rattle.rules.specs.Limiter.{Closed, closed}
 use Rattle.rules.specs.Stages.{Stages, stages, flux}
 use Rattle.rules.specs.Correction.{donor, outflow, limited_flux, target}
@@ -39,11 +39,11 @@ pub record Stepped : Type 0 where
   pub report : List ℤ
   pub clipped : ℕ
 
--- every element closed, and "Report every G*"
+-- every element closed, and "Report every G*"; the stored total stays: document 02, 2026-06, "a step leaves it"
 unfoldable pub finish : Kind → Shape → List ℕ → List ℤ → (ℕ → ℕ → ℤ) → Stepped
-unfolding closed_element blocks sum
+unfolding closed_element blocks part_of stored_total sum
 finish κ g p r ψ = record {
-  part = blocks (elements g) (λ e. (closed_element κ g p r ψ e).numbers);
+  part = part_of (blocks (elements g) (λ e. (closed_element κ g p r ψ e).numbers)) (stored_total κ g p);
   report = r;
   clipped = sum (elements g) (λ e. (closed_element κ g p r ψ e).clipped);
 }

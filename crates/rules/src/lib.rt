@@ -48,6 +48,15 @@ pub enum WindRecord {
     East(f64),
 }
 
+// The mark that a field file ends with.
+#[derive(Clone, Copy)]
+pub enum Mark {
+    // "PLUM": its smoke sections hold elements alone
+    Plum,
+    // "PLU2" (document 02, 2026-06): a smoke section ends with the stored total
+    Plu2,
+}
+
 // Why a call was refused, in the order of the refusals' numbers. Every call answers a Result with it: () of wind, import, fresh and load; a number of
 // emission, withdrawal and step (the clipped mass), of a reading and of file writing; the shape of file reading.
 #[derive(Clone, Copy)]
@@ -62,7 +71,7 @@ pub enum Refusal {
     ShortBuffer,
     // 5: a wind number is out of range
     WindOutOfRange,
-    // 6: a tracer has a remainder or a total out of range
+    // 6: a remainder above 35, a total above the limit, or a stored total that is not the sum or is below what the named element holds
     UnsoundTracer,
     // 7: there is no such tracer
     NoSuchTracer,

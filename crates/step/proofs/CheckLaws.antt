@@ -14,14 +14,14 @@ use Rattle.whole.proofs.OverwriteLaws.{front-is}
 use Rattle.whole.proofs.SumLaws.{all-at}
 use Rattle.rules.specs.declared.Shape.{Shape}
 use Rattle.rules.specs.Answers.{Answer, accepted, refused, Check, check, answer, mapped, plain}
-use Rattle.rules.specs.Field.{quadratic, admitted, faces, work_needed, field_length, part_length, part, with_part, total, Admitted, elements_length, wind_in_range}
+use Rattle.rules.specs.Field.{quadratic, admitted, faces, work_needed, field_length, part_length, part, with_part, stored_total, total, limit, sound, if_there, Admitted, wind_in_range}
 use Rattle.rules.specs.Step.{tracer_step}
-use Rattle.rules.specs.Calls.{Operation, step, Lent, lengths_lent, wind_at, wind_sound, lent_enough, sound_if_there, checks, done, call, total_reading, clipped_mass, report_after, WorkAfter, Reply}
+use Rattle.rules.specs.Calls.{Operation, step, Lent, lengths_lent, wind_at, wind_sound, lent_enough, checks, done, call, clipped_mass, report_after, WorkAfter, Reply}
 use Rattle.rules.proofs.AnswerLaws.{Passed, answer-ind, prefix-refused, prefix-accepted}
-use Rattle.rules.proofs.FieldLaws.{total-small, sound-there}
+use Rattle.rules.proofs.FieldLaws.{tested, summed}
 use Rattle.rules.proofs.ShapeLaws.{ranges}
+use Rattle.field.specs.Leaves.{sum_reading}
 use Rattle.field.proofs.CheckLaws.{call-refused}
-use Rattle.rules.proofs.PartLaws.{part-is-elements}
 use Rattle.step_upwind.specs.Upwind.{WindsInRange}
 
 -- ---- the call's answer, by its tests
@@ -38,7 +38,7 @@ module _ (g : Shape) (s : ℕ) (f : List ℕ) (wind : List ℤ) (rl wl : ℕ) wh
 
   -- 6 and 7
   abbrev last-two : List Check
-  last-two = check 6 (sound_if_there quadratic g (ltb s g.tracers) p) ∷ check 7 (ltb s g.tracers) ∷ []
+  last-two = check 6 (if_there (ltb s g.tracers) (sound quadratic g p)) ∷ check 7 (ltb s g.tracers) ∷ []
 
   abbrev r : Reply
   r = let d = tracer_step quadratic g (wind_at wind) p in record { report = d.report; clipped = d.clipped }
@@ -63,14 +63,14 @@ module _ (g : Shape) (s : ℕ) (f : List ℕ) (wind : List ℤ) (rl wl : ℕ) wh
   field-enough true b e = refl
   field-enough false b e = e
 
-  reading : admitted g ≡ true → enough ≡ true → total_reading quadratic g s f ≡ answer last-two (total quadratic g p)
-  unfolding total_reading answer
+  reading : admitted g ≡ true → enough ≡ true → sum_reading g s f ≡ answer last-two (total quadratic g p)
+  unfolding sum_reading answer
   reading a e = rw (a, field-enough (leb (field_length quadratic g) (length f)) _ e)
 
-  pub step-refused : (n : ℕ) → admitted g ≡ true → enough ≡ true → wind_sound g wind ≡ true → total_reading quadratic g s f ≡ refused n → (call quadratic g s op f).reply ≡ refused n
+  pub step-refused : (n : ℕ) → admitted g ≡ true → enough ≡ true → wind_sound g wind ≡ true → sum_reading g s f ≡ refused n → (call quadratic g s op f).reply ≡ refused n
   step-refused n a e w t = rest a e w ∙ prefix-refused last-two [] (total quadratic g p) r n (sym (reading a e) ∙ t)
 
-  pub step-accepted : (t : ℕ) → admitted g ≡ true → enough ≡ true → wind_sound g wind ≡ true → total_reading quadratic g s f ≡ accepted t → (call quadratic g s op f).reply ≡ accepted r
+  pub step-accepted : (t : ℕ) → admitted g ≡ true → enough ≡ true → wind_sound g wind ≡ true → sum_reading g s f ≡ accepted t → (call quadratic g s op f).reply ≡ accepted r
   unfolding answer
   step-accepted t a e w q = rest a e w ∙ prefix-accepted last-two [] (total quadratic g p) t r (sym (reading a e) ∙ q)
 
@@ -82,7 +82,8 @@ module _ (g : Shape) (s : ℕ) (f : List ℕ) (wind : List ℤ) (rl wl : ℕ) wh
     pub wind-range : WindsInRange g wind
     pub reports : faces g ≤ rl
     pub works : work_needed g ≤ wl
-    pub within-limit : total quadratic g p ≤ 100000000
+    pub within-limit : total quadratic g p ≤ limit
+    pub stored-within : stored_total quadratic g p ≤ limit
     pub answers : (call quadratic g s op f).reply ≡ accepted r
 
   winds-ranged : faces g ≤ length wind → T (wind_sound g wind) → WindsInRange g wind
@@ -102,6 +103,7 @@ module _ (g : Shape) (s : ℕ) (f : List ℕ) (wind : List ℤ) (rl wl : ℕ) wh
       let b = both_yes (leb (field_length quadratic g) (length f)) _ c.1.0 in
       let w = both_yes (leb (faces g) (length wind)) _ b.1 in
       let q = both_yes (leb (faces g) rl) (leb (work_needed g) wl) w.1 in
+      let t = summed quadratic g p (tested (ltb s g.tracers) (sound quadratic g p) c.1.1.1.1.0 c.1.1.1.0) in
       record {
         shape = shape;
         room = leb→le _ _ b.0;
@@ -109,7 +111,8 @@ module _ (g : Shape) (s : ℕ) (f : List ℕ) (wind : List ℤ) (rl wl : ℕ) wh
         wind-range = winds-ranged (leb→le _ _ w.0) c.1.1.0;
         reports = leb→le _ _ q.0;
         works = leb→le _ _ q.1;
-        within-limit = total-small quadratic g p (sound-there quadratic g p (ltb s g.tracers) c.1.1.1.1.0 c.1.1.1.0);
+        within-limit = t.0;
+        stored-within = omega (arith, t.0, t.1);
         answers = e;
       }
 
@@ -139,10 +142,10 @@ pub report-back : (n : ℕ) {x : List ℤ} (new old : List ℤ) → n ≡ length
 report-back n new old en ex = (λ i. ex i ++ drop (en i) old) ∙ sym (front-is new old)
 
 -- the part that was lent and written, back in its place
-pub part-back : (g : Shape) (s at k : ℕ) (x new f : List ℕ) → at ≡ s * part_length quadratic g → k ≡ elements_length quadratic g → x ≡ new → length new ≡ part_length quadratic g
+pub part-back : (g : Shape) (s at k : ℕ) (x new f : List ℕ) → at ≡ s * part_length quadratic g → k ≡ part_length quadratic g → x ≡ new → length new ≡ part_length quadratic g
     → take at f ++ (x ++ drop k (drop at f)) ≡ with_part quadratic g s new f
 unfolding with_part overwrite
-part-back g s at k x new f ea ek ex size = rw (ea, ek ∙ sym (part-is-elements quadratic g) ∙ sym size, ex)
+part-back g s at k x new f ea ek ex size = rw (ea, ek ∙ sym size, ex)
 
 -- what a step on the grid of a shape gives is what it gives on the shape
 pub on_shape : {a : Answer ℕ} {f' : List ℕ} {r' : List ℤ} (w' : List ℤ) {g h : Shape} (s : ℕ) (o : Operation Lent) (f : List ℕ) (r w : List ℤ) → g ≡ h

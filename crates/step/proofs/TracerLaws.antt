@@ -20,7 +20,7 @@ use Rattle.whole.proofs.SumLaws.{sum-cong}
 use Rattle.whole.proofs.TableLaws.{length-table, get_d-table, table-all, table-cong, blocks-cong}
 use Rattle.whole.proofs.WholeLaws.{positive-pos, abs-parts}
 use Rattle.rules.specs.declared.Shape.{Shape}
-use Rattle.rules.specs.Field.{quadratic, elements, faces, north_face, element_length, elements_length, cell, remainder, mass, total, limit, Admitted}
+use Rattle.rules.specs.Field.{quadratic, elements, faces, north_face, element_length, elements_length, part_length, stored_total, part_of, cell, remainder, mass, total, limit, Admitted}
 use Rattle.rules.specs.Grid.{west, south, behind, ahead}
 use Rattle.rules.specs.Stages.{Stages, stages, stage0, flux}
 use Rattle.rules.specs.Limiter.{closed}
@@ -37,7 +37,7 @@ use Rattle.rules.proofs.QuadraticLaws.{weights-above}
 use Rattle.rules.proofs.StageBounds.{quadratic-bounded, ψ-within, flux-within}
 use Rattle.rules.proofs.HeldLaws.{with_held_flux-cong, node_rise-within}
 use Rattle.rules.proofs.StepLaws.{report-length, report-le, goal-above}
-use Rattle.field_layout.proofs.PlaceLaws.{elements-are}
+use Rattle.field_layout.proofs.PlaceLaws.{elements-are, part-is}
 use Rattle.step_upwind.specs.Upwind.{stage_length, listed, as_stage, WindsInRange}
 use Rattle.step_upwind.proofs.ListedLaws.{listed-at, listed-within}
 use Rattle.step_stages.specs.Advance.{new_sums, new_values}
@@ -55,8 +55,9 @@ not-below n = record { le = le→leb 0 n (omega arith) }
 pub record Given (g : Shape) (wind : List ℤ) (p : List ℕ) : Type 0 where
   pub admits : Admitted g
   pub winds : WindsInRange g wind
-  pub numbers : length p ≡ elements_length quadratic g
+  pub numbers : length p ≡ part_length quadratic g
   pub within-limit : total quadratic g p ≤ limit
+  pub stored-within : stored_total quadratic g p ≤ limit
 
 module _ {g : Shape} {wind : List ℤ} {p : List ℕ} (given : Given g wind p) where
   abbrev c : ℕ → ℤ
@@ -78,22 +79,32 @@ module _ {g : Shape} {wind : List ℤ} {p : List ℕ} (given : Given g wind p) w
   pub mass-small : (e : ℕ) → e < elements g → mass quadratic p e ≤ limit
   mass-small e l = omega (arith, mass-le-total quadratic g p e l, given.within-limit)
 
-  number_small : (i : ℕ) → get_or p i 0 ≤ limit
+  -- every number of the part, those of its elements
+  element_small : (i : ℕ) → i < elements g * 10 → get_or p i 0 ≤ limit
   unfolding mass remainder cell element_length quadratic
-  number_small i = go (dec_lt i (elements g * 10)) (dec_lt (i % 10) 9)
+  element_small i l = go (dec_lt (i % 10) 9)
     where
       place : i ≡ i / 10 * 10 + i % 10
       place = sym (div-add-mod' i 10)
 
-      go : Dec (i < elements g * 10) → Dec (i % 10 < 9) → get_or p i 0 ≤ limit
-      go (yes l) (yes k) =
-          let e : i / 10 < elements g = omega arith in
-          omega (arith, ap (λ n. get_or p n 0) place, value-le-mass quadratic p (i / 10) (i % 10) k (weights-above (i % 10) k), mass-small (i / 10) e)
-      go (yes l) (no k) =
-          let e : i / 10 < elements g = omega arith in
+      e : i / 10 < elements g
+      e = omega arith
+
+      go : Dec (i % 10 < 9) → get_or p i 0 ≤ limit
+      go (yes k) = omega (arith, ap (λ n. get_or p n 0) place, value-le-mass quadratic p (i / 10) (i % 10) k (weights-above (i % 10) k), mass-small (i / 10) e)
+      go (no k) =
           let n : i % 10 ≡ 9 = omega arith in
           omega (arith, ap (λ n. get_or p n 0) place, ap (λ n. get_or p (i / 10 * 10 + n) 0) n, mass-small (i / 10) e)
-      go (no l) k = let z : get_or p i 0 ≡ 0 = get_or-eq_default p 0 (omega (arith, given.numbers, elements-are g)) in omega arith
+
+  -- and its stored total
+  number_small : (i : ℕ) → get_or p i 0 ≤ limit
+  unfolding stored_total
+  number_small i = go (dec_lt i (elements g * 10)) (dec_lt i (length p))
+    where
+      go : Dec (i < elements g * 10) → Dec (i < length p) → get_or p i 0 ≤ limit
+      go (yes l) k = element_small i l
+      go (no l) (yes k) = let n : i ≡ elements_length quadratic g = omega (arith, given.numbers, part-is g, elements-are g) in omega (arith, ap (λ n. get_or p n 0) n, given.stored-within)
+      go (no l) (no k) = let z : get_or p i 0 ≡ 0 = get_or-eq_default p 0 (omega arith) in omega arith
 
   -- ---- the stages
   -- stage m, and the sums of the tendencies of those before it
@@ -318,8 +329,9 @@ module _ {g : Shape} {wind : List ℤ} {p : List ℕ} (given : Given g wind p) w
         ∙ ap (λ z. closed quadratic (with_held_flux quadratic g (at rise_list) (as_stage (phi 3)) e) (positive z)) (target-same e l)
         ∙ closed-cong quadratic (with_held_flux quadratic g (at rise_list) (as_stage (phi 3)) e) (ψ e) _ (λ k lk. same_values e k l lk)
 
-    pub all_closed : {part : List ℕ} → part ≡ blocks (elements g) (λ e. (closed_lent g psi hs ms r e).numbers) → part ≡ blocks (elements g) (λ e. (closed_element quadratic g p limited ψ e).numbers)
-    all_closed h = h ∙ blocks-cong (elements g) _ _ (λ e l. ap (λ x. x.numbers) (same_closing e l))
+    pub all_closed : {part : List ℕ} → part ≡ part_of (blocks (elements g) (λ e. (closed_lent g psi hs ms r e).numbers)) (stored_total quadratic g p)
+        → part ≡ part_of (blocks (elements g) (λ e. (closed_element quadratic g p limited ψ e).numbers)) (stored_total quadratic g p)
+    all_closed h = h ∙ ap (λ x. part_of x (stored_total quadratic g p)) (blocks-cong (elements g) _ _ (λ e l. ap (λ x. x.numbers) (same_closing e l)))
 
     pub all_clipped : {n : ℕ} → n ≡ sum (elements g) (λ e. (closed_lent g psi hs ms r e).clipped) → n ≡ sum (elements g) (λ e. (closed_element quadratic g p limited ψ e).clipped)
     all_clipped h = h ∙ sum-cong (elements g) _ _ (λ e l. ap (λ x. x.clipped) (same_closing e l))

@@ -31,7 +31,7 @@ fn lent_enough(field: usize, wind: usize, report: usize, work: usize, grid: Grid
     grid.field_length() <= field && faces <= wind && faces <= report && work_needed(grid) <= work
 }
 
-// The checks of a step on a grid, for a report and a work of these lengths: 4, 5, and then 6 and 7 as a reading of the total meets them.
+// The checks of a step on a grid, for a report and a work of these lengths: 4, 5, and then 6 and 7 by the sum of the tracer.
 fn check(
     field: &[u32],
     wind: &[i16],
@@ -48,7 +48,7 @@ fn check(
     if !field_search::winds_sound(wind, grid) {
         return Err(Refusal::WindOutOfRange);
     }
-    field::total_on(field, grid, tracer)?;
+    field::sum_on(field, grid, tracer)?;
     Ok(())
 }
 
@@ -68,7 +68,7 @@ pub fn step(
     let grid = Grid::try_from(shape)?;
     check(field, wind, report.len(), work.len(), grid, tracer)?;
     let start = grid.tracer_start(tracer);
-    let end = start + grid.elements_length();
+    let end = start + grid.part_length();
     let faces = grid.faces();
     let needed = work_needed(grid);
     Ok(tracer::step(

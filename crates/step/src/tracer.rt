@@ -1,9 +1,10 @@
-// The step of one tracer, on its part of the field. Leaves: what is lent has its length, winds and the tracer's total are in their ranges.
+// The step of one tracer, on its part of the field. Leaves: what is lent has its length, winds and the tracer's total, summed and stored, are in their
+// ranges.
 ghost use Rattle.std.specs.Prelude.{◌≡◌, ◌≤◌, length};
 ghost use Rattle.whole.specs.Parts.{positive};
 ghost use Rattle.whole.specs.Sum.{sum};
 ghost use Rattle.whole.specs.Table.{blocks, at};
-ghost use Rattle.rules.specs.Field.{quadratic, elements, elements_length, faces, work_needed, total, limit};
+ghost use Rattle.rules.specs.Field.{quadratic, elements, part_length, stored_total, part_of, faces, work_needed, total, limit};
 ghost use Rattle.rules.specs.Correction.{target};
 ghost use Rattle.rules.specs.Step.{tracer_step};
 ghost use Rattle.rules.specs.Calls.{wind_at};
@@ -31,8 +32,8 @@ fn target(masses: &[i64], report: &[i32], element: Element) -> u64
     all.unsigned_abs() // a target is never below 0
 }
 
-// Every element is closed with its tentative values, to which its faces add what they hold back, and its target. The sum of the clipped masses is
-// answered.
+// Every element is closed with its tentative values, to which its faces add what they hold back, and its target; the stored total is left. The sum of
+// the clipped masses is answered.
 fn finish(
     part: &mut [u32],
     psi: &[i64],
@@ -41,10 +42,10 @@ fn finish(
     report: &[i32],
     grid: Grid,
 ) -> u64
-    requires part_len { length part.old ≡ elements_length quadratic grid.shape }
+    requires part_len { length part.old ≡ part_length quadratic grid.shape }
     requires values { Values grid.shape psi.now rises.now }
     requires balance { Balance grid.shape masses.now report.now }
-    ensures numbers { part.new ≡ blocks (elements grid.shape) (λ e. (closed_lent grid.shape psi.now rises.now masses.now report.now e).numbers) }
+    ensures numbers { part.new ≡ part_of (blocks (elements grid.shape) (λ e. (closed_lent grid.shape psi.now rises.now masses.now report.now e).numbers)) (stored_total quadratic grid.shape part.old) }
     ensures clipped { result ≡ sum (elements grid.shape) (λ e. (closed_lent grid.shape psi.now rises.now masses.now report.now e).clipped) }
     ensures upper_bound { result ≤ step_clipped_size }
 {
@@ -68,8 +69,9 @@ fn finish(
 // The step of a tracer's part, and its report; the clipped mass is answered. What it works with stands in sections of `work`, one after the other:
 // the stages, the sums of tendencies, and what the faces and the elements have.
 pub(crate) fn step(part: &mut [u32], winds: Winds, report: &mut [i32], work: &mut [i64]) -> u64
-    requires part_len { length part.old ≡ elements_length quadratic winds.grid.shape }
+    requires part_len { length part.old ≡ part_length quadratic winds.grid.shape }
     requires part_bound { total quadratic winds.grid.shape part.old ≤ limit }
+    requires stored_bound { stored_total quadratic winds.grid.shape part.old ≤ limit }
     requires report_len { length report.old ≡ faces winds.grid.shape }
     requires work_len { work_needed winds.grid.shape ≤ length work.old }
     ensures part_after { part.new ≡ (tracer_step quadratic winds.entry.grid.shape (wind_at winds.entry.wind.now) part.old).part }

@@ -62,7 +62,7 @@ pub fn outflows(outflows: &mut [i64], fluxes: &[i64], grid: Grid)
 
 // The masses of all elements of a tracer's part.
 pub fn masses(masses: &mut [i64], part: &[u32])
-    requires part_len { length part.now ≡ length masses.old * 10 }
+    requires part_len { length masses.old * 10 ≤ length part.now }
     requires within_limit { (e : ℕ) → e < length masses.old → mass quadratic part.now e ≤ limit }
     ensures { masses.new ≡ table (length masses.old) (λ e. pos (mass quadratic part.now e)) }
 {

@@ -1,7 +1,7 @@
 -- The passes' stages and their factors, by cases; how large an element's tendencies are.
 use mathlib.Core.Path.{◌≡◌, refl, sym, ap, ap₂, ◌∙◌}
 use mathlib.Core.List.{List, []}
-use Prim.Native.Nat.{ℕ, zero, suc, ◌+◌, ◌*◌, ◌/◌, ◌%◌, ◌<◌}
+use Prim.Native.Nat.{ℕ, zero, suc, ◌+◌, ◌*◌, ◌/◌, ◌%◌, ◌≤◌, ◌<◌}
 use native.Mathlib.Nat.{div-one}
 use native.Mathlib.Omega.{arith}
 use lib.IntN.{ℤ, pos, negsuc, ◌+ℤ◌, ◌*ℤ◌}
@@ -61,8 +61,8 @@ value-exact a b = exact (search exacts depth 20) tt
 pub sums-lent : (p old : List ℤ) (e n k : ℕ) → drop (e * 9) p ≡ drop (e * 9) old → n ≡ 9 → k < 9 → at (take n (drop (e * 9) p)) k ≡ as_stage old e k
 sums-lent p old e n k h en lk = ap (λ l. at (take n l) k) h ∙ part_at 9 (e * 9) n old k (pos 0) en lk
 
--- ---- the elements of a part, as the library lends them by chunks of ten, and the stored values of element e
-module _ (p : List ℕ) (cs : List (List ℕ)) (n : ℕ) (long : length cs ≡ length p / 10) (all : length p ≡ n * 10) where
+-- ---- the elements of a part, the first n of what the library lends by chunks of ten, and the stored values of element e
+module _ (p : List ℕ) (cs : List (List ℕ)) (n : ℕ) (long : length cs ≡ length p / 10) (all : n * 10 ≤ length p) where
   pub all-lent : length (take n cs) ≡ n
   all-lent = length-take-le n cs (omega arith)
 

@@ -3,7 +3,7 @@
 // its length and size: `next` is another slice in each pass, so that a struct of `&mut` slices would be made anew for each.
 #![tactic(auto)]
 
-ghost use Rattle.std.specs.Prelude.{◌≡◌, ◌+◌, pos, ◌+ℤ◌, ◌*ℤ◌, length, get_or};
+ghost use Rattle.std.specs.Prelude.{◌≡◌, ◌+◌, ◌≤◌, pos, ◌+ℤ◌, ◌*ℤ◌, length, get_or};
 ghost use Rattle.whole.specs.Bound.{Within, Are, AllWithin, floor_div};
 ghost use Rattle.whole.specs.Table.{table, at};
 ghost use Rattle.rules.specs.Field.{quadratic, elements_length, limit};
@@ -64,7 +64,7 @@ fn store(values: &mut [i64], numbers: &[u32; NUMBERS])
 // Stage 0 of a tracer's part: its stored values.
 pub fn start(stage: &mut [i64], part: &[u32], grid: Grid)
     requires stage_len { length stage.old ≡ stage_length grid.shape }
-    requires part_len { length part.now ≡ elements_length quadratic grid.shape }
+    requires part_len { elements_length quadratic grid.shape ≤ length part.now }
     ensures { stage.new ≡ listed (stage_length grid.shape) (stage0 quadratic part.now) }
 {
     let n = grid.elements();

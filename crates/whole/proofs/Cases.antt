@@ -40,6 +40,10 @@ neqb→ne a b t e = T_not (eqb a b) t (eqb_of e)
 pub ne→neqb : (a b : ℕ) → a ≢ b → T (not (eqb a b))
 ne→neqb a b h = either (eqb a b) (λ t. absurd (h (eqb→eq a b t))) (λ t. t)
 
+pub both : (a b : Bool) → T a → T b → T (a && b)
+both true b s t = t
+both false b s t = absurd s
+
 pub both_yes : (a b : Bool) → T (a && b) → T a × T b
 both_yes true b t = (tt, t)
 both_yes false b t = absurd t

@@ -1,14 +1,14 @@
 -- Parts of a list that are read or written one after the other.
-use mathlib.Core.Path.{◌≡◌, sym, ap, ap₂, ◌∙◌}
+use mathlib.Core.Path.{◌≡◌, refl, sym, ap, ◌∙◌}
 use mathlib.Core.List.{List, [], ◌∷◌, ◌++◌, append_assoc, append-nil}
 use Prim.Native.Nat.{ℕ, zero, suc, ◌+◌, ◌-◌, ◌*◌, ◌≤◌, ◌<◌}
 use native.Mathlib.Nat.{add-zero, add-suc, zero-mul, suc-mul}
 use native.Mathlib.Omega.{arith}
 use lib.ListN.{length, get_or, take, drop, length-append, length-drop, drop_of_length-le}
-use lib.Seq.{length-take-le, take_at, drop_at, drop-drop}
+use lib.Seq.{length-take-le, take-add, take_at, drop_at, drop-drop}
 use Rattle.std.specs.Simd.{first_chunks}
-use Rattle.whole.specs.Table.{blocks, table, overwrite}
-use Rattle.whole.proofs.TableLaws.{table-blocks, length-table}
+use Rattle.whole.specs.Table.{blocks, overwrite}
+use Rattle.whole.proofs.TableLaws.{length-blocks}
 use Rattle.whole.proofs.OverwriteLaws.{length-overwrite, overwrite-part, front-is}
 
 module _ {A : Type 0} where
@@ -17,25 +17,26 @@ module _ {A : Type 0} where
   blocks-split m zero f = ap (λ k. blocks k f) (add-zero m) ∙ sym (append-nil (blocks m f))
   blocks-split m (suc n) f = ap (λ k. blocks k f) (add-suc m n) ∙ ap (λ x. x ++ f (m + n)) (blocks-split m n f) ∙ append_assoc (blocks m f) (blocks n (λ i. f (m + i))) (f (m + n))
 
-  pub table-split : (m n : ℕ) (f : ℕ → A) → table (m + n) f ≡ table m f ++ table n (λ i. f (m + i))
-  table-split m n f = table-blocks (m + n) f ∙ blocks-split m n (λ i. f i ∷ []) ∙ sym (ap₂ ◌++◌ (table-blocks m f) (table-blocks n (λ i. f (m + i))))
+  -- blocks of blocks of equal width are one run of blocks
+  pub blocks-of-blocks : (n w : ℕ) (f : ℕ → List A) → blocks n (λ s. blocks w (λ i. f (s * w + i))) ≡ blocks (n * w) f
+  unfolding blocks
+  blocks-of-blocks zero w f = sym (ap (λ k. blocks k f) (zero-mul w))
+  blocks-of-blocks (suc n) w f = ap (λ x. x ++ blocks w (λ i. f (n * w + i))) (blocks-of-blocks n w f) ∙ sym (ap (λ k. blocks k f) (suc-mul n w) ∙ blocks-split (n * w) w f)
 
-  -- n entries of a table, from m on
-  pub table-part : (m n k : ℕ) (f : ℕ → A) → m + n ≤ k → take n (drop m (table k f)) ≡ table n (λ i. f (m + i))
-  table-part m n k f h =
-      let r = k - (m + n) in
-      let e : k ≡ m + (n + r) = omega arith in
-      let d : drop m (table k f) ≡ table (n + r) (λ i. f (m + i)) =
-      ap (λ x. drop m (table x f)) e ∙ ap (drop m) (table-split m (n + r) f) ∙ drop_at (table m f) (table (n + r) (λ i. f (m + i))) m (length-table m f) in
-      ap (take n) (d ∙ table-split n r (λ i. f (m + i))) ∙ take_at (table n (λ i. f (m + i))) _ n (length-table n (λ i. f (m + i)))
+  -- the parts of width w of a list, one after the other
+  pub parts-joined : (n w : ℕ) (l : List A) → blocks n (λ s. take w (drop (s * w) l)) ≡ take (n * w) l
+  unfolding blocks
+  parts-joined zero w l = sym (ap (λ k. take k l) (zero-mul w))
+  parts-joined (suc n) w l = ap (λ x. x ++ take w (drop (n * w) l)) (parts-joined n w l) ∙ sym (ap (λ k. take k l) (suc-mul n w) ∙ take-add (n * w) w l)
 
-  -- a loop that fills a list part by part: the next n entries are written where the first m end
-  pub fill-part : (m n k : ℕ) (f : ℕ → A) (x l p : List A) → k ≡ n → p ≡ table m f ++ drop m l → x ≡ table n (λ i. f (m + i))
-      → take m p ++ (x ++ drop k (drop m p)) ≡ table (m + n) f ++ drop (m + n) l
-  fill-part m n k f x l p hk hp hx =
-      let front : take m p ≡ table m f = rw hp (take_at (table m f) (drop m l) m (length-table m f)) in
-      let back : drop m p ≡ drop m l = rw hp (drop_at (table m f) (drop m l) m (length-table m f)) in
-      rw (front, back, hk, hx, table-split m n f) (ap (λ y. table m f ++ (table n (λ i. f (m + i)) ++ y)) (drop-drop n m l) ∙ sym (append_assoc (table m f) (table n (λ i. f (m + i))) (drop (m + n) l)))
+  -- part s of blocks of width w
+  pub part-of-blocks : (w : ℕ) (f : ℕ → List A) → ((e : ℕ) → length (f e) ≡ w) → (n s : ℕ) → s < n → take w (drop (s * w) (blocks n f)) ≡ f s
+  unfolding blocks
+  part-of-blocks w f each n s h =
+      let r = n - (s + 1) in
+      let e : n ≡ s + (1 + r) = omega arith in
+      ap (λ k. take w (drop (s * w) (blocks k f))) e ∙ ap (λ l. take w (drop (s * w) l)) (blocks-split s (1 + r) f) ∙ ap (take w) (drop_at (blocks s f) _ (s * w) (length-blocks w f each s)
+      ∙ blocks-split 1 r (λ i. f (s + i))) ∙ take_at (f (s + 0)) _ w (each (s + 0)) ∙ ap f (add-zero s)
 
   -- q written behind p, which was written from place a on
   pub overwrite-next : (a b : ℕ) (p q l : List A) → a + length p ≡ b → b ≤ length l → overwrite b q (overwrite a p l) ≡ overwrite a (p ++ q) l
@@ -60,6 +61,12 @@ module _ {A : Type 0} where
 -- a list that is written over all of another
 pub overwritten : {A : Type 0} (ys xs : List A) → length xs ≡ length ys → overwrite 0 ys xs ≡ ys
 overwritten ys xs e = front-is ys xs ∙ ap (λ r. ys ++ r) (drop_of_length-le xs {i = length ys} (omega arith)) ∙ append-nil ys
+
+-- an entry that is there needs no default
+pub either-default : {A : Type 0} (l : List A) (i : ℕ) (d d' : A) → i < length l → get_or l i d ≡ get_or l i d'
+either-default [] i d d' h = let f : ⊥ = omega arith in absurd f
+either-default (x ∷ l) zero d d' h = refl
+either-default (x ∷ l) (suc i) d d' h = either-default l i d d' (omega arith)
 
 -- chunk i of the first k of width w, as the library's `as_chunks` lends them
 pub chunk-at : {A : Type 0} (w k i : ℕ) (l : List A) → i < k → get_or (first_chunks w k l) i [] ≡ take w (drop (i * w) l)

@@ -7,8 +7,8 @@ use native.Mathlib.Nat.{suc-mul, mul-le-mul_right}
 use native.Mathlib.Decide.{dec_lt}
 use native.Mathlib.Numerals.{add-one}
 use native.Mathlib.Omega.{arith}
-use lib.ListN.{length, get_or, take, drop, take-append-drop, replicate, replicate-append-replicate, length-replicate, length-append, length-take, length-drop, get_or-append}
-use lib.Seq.{take-take, take-add, drop-drop, drop-append-le, length-take-le, drop_at, take_at, get_or-append-add, get_or-take, get_or-drop, ext_get_or}
+use lib.ListN.{length, get_or, set, take, drop, take-append-drop, replicate, replicate-append-replicate, length-replicate, length-append, length-take, length-drop, get_or-append}
+use lib.Seq.{set_split, take-take, take-add, drop-drop, drop-append-le, length-take-le, drop_at, take_at, get_or-append-add, get_or-take, get_or-drop, ext_get_or}
 use Rattle.whole.specs.Table.{table, overwrite}
 use Rattle.whole.proofs.TableLaws.{length-table}
 
@@ -117,3 +117,33 @@ overwrite-part a n b x l room fits =
     ap (λ y. y ++ drop n d) (drop-drop w b p) ∙ sym (drop-append-le (b + w) p (drop n d) (omega (arith, len)))
     ∙ ap (drop (b + w)) (take-append-drop n d) ∙ sym (drop-drop w b d) ∙ ap (drop w) (drop-drop b a l) in
     rw (all, front, take-add a b l) (simp append_assoc (ap (λ y. take a l ++ (take b d ++ (x ++ y))) back))
+
+-- one number that is set is a list of one that is written
+pub set-is : {A : Type 0} (n : ℕ) (a : A) (l : List A) → n < length l → set l n a ≡ overwrite n (a ∷ []) l
+unfolding overwrite
+set-is n a l h = set_split l n a h ∙ ap (λ r. take n l ++ (a ∷ r)) (ap (λ m. drop m l) (sym (add-one n)) ∙ sym (drop-drop 1 n l))
+
+-- a list written over one of the same length
+overwrite-again : {A : Type 0} (n : ℕ) (x y l : List A) → length x ≡ length y → n + length x ≤ length l → overwrite n y (overwrite n x l) ≡ overwrite n y l
+unfolding overwrite
+overwrite-again n x y l same room =
+    let rest = x ++ drop (length x) (drop n l) in
+    let len : length (take n l) ≡ n = length-take-le n l (omega arith) in
+    let back : drop (length y) rest ≡ drop (length y) (drop n l) = drop_at x (drop (length x) (drop n l)) (length y) same ∙ ap (λ m. drop m (drop n l)) same in
+    rw (take_at (take n l) rest n len, drop_at (take n l) rest n len, back) refl
+
+-- two lists written in turn within part s of width w: x from its place b on, and then y from c on
+pub overwrite-two : {A : Type 0} (s w b c : ℕ) (x y l : List A) → s * w + w ≤ length l → b + length x ≤ w → c + length y ≤ w
+    → overwrite (s * w) (overwrite c y (overwrite b x (take w (drop (s * w) l)))) l ≡ overwrite (s * w + c) y (overwrite (s * w + b) x l)
+overwrite-two s w b c x y l room first second =
+    let p = take w (drop (s * w) l) in
+    let q = overwrite b x p in
+    let m = overwrite (s * w) q l in
+    let size : length p ≡ w = length-take-le w (drop (s * w) l) (omega (arith, length-drop (s * w) l)) in
+    let width : length q ≡ w = length-overwrite b x p (omega (arith, size)) ∙ size in
+    let long : length m ≡ length l = length-overwrite (s * w) q l (omega (arith, width)) in
+    let other : length (overwrite c y q) ≡ w = length-overwrite c y q (omega (arith, width)) ∙ width in
+    sym (overwrite-again (s * w) q (overwrite c y q) l (width ∙ sym other) (omega (arith, width)))
+    ∙ ap (λ r. overwrite (s * w) (overwrite c y r) m) (sym (part_same w s q l width room))
+    ∙ overwrite-part (s * w) w c y m (omega (arith, long)) second
+    ∙ ap (overwrite (s * w + c) y) (overwrite-part (s * w) w b x l room first)

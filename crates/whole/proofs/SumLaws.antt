@@ -11,7 +11,7 @@ use lib.Dec.{T}
 use lib.IntN.{ℤ, pos, nat_abs, ◌+ℤ◌, ◌*ℤ◌, +ℤ_idl, +ℤ_idr, +ℤ_assoc}
 use Rattle.whole.specs.Parts.{positive, negative}
 use Rattle.whole.specs.Sum.{sum, sum_ℤ, all}
-use Rattle.whole.proofs.Cases.{both_yes, either}
+use Rattle.whole.proofs.Cases.{both, both_yes, either}
 use Rattle.whole.proofs.WholeLaws.{add_parts, eq-parts, abs-add, pos-injective, positive-mul, negative-mul}
 
 -- ---- sums of naturals
@@ -170,6 +170,11 @@ all-at (suc n) f t i h =
     go : Dec (i ≡ n) → T (f n) → (i < n → T (f i)) → T (f i)
     go (yes e) t ih = subst (λ k. T (f k)) (sym e) t
     go (no ne) t ih = ih (omega (arith, ne))
+
+pub all_of : (n : ℕ) (f : ℕ → Bool) → ((i : ℕ) → i < n → T (f i)) → T (all n f)
+unfolding all
+all_of zero f h = tt
+all_of (suc n) f h = both (all n f) (f n) (all_of n f (λ i l. h i (omega arith))) (h n (omega arith))
 
 pub all_more : (n : ℕ) (f : ℕ → Bool) → all n f ≡ true → f n ≡ true → all (n + 1) f ≡ true
 unfolding all

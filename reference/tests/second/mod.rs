@@ -1,5 +1,5 @@
 //! A second reading of a step, node by node from document 01 and its requests
-//! 2026-02, 2026-04 and 2026-05. It uses none of the program's own rules.
+//! 2026-02 and 2026-04 to 2026-06. It uses none of the program's own rules.
 
 use super::rounding::to_nearest_even;
 use reference::Shape;
@@ -20,7 +20,7 @@ pub struct Reading<'a> {
 
 /// What a step gives.
 pub struct Stepped {
-    /// Ten numbers an element.
+    /// Ten numbers an element, then the stored total (request 2026-06).
     pub numbers: Vec<u32>,
     /// Every G* in the wind's order.
     pub report: Vec<i32>,
@@ -159,6 +159,7 @@ impl Reading<'_> {
     /// east or north side rises by that face's q, one on a west or south side
     /// falls by it; without the request q is 0 everywhere.
     pub fn step(&self, part: &[u32], by_its_face: bool) -> Stepped {
+        let (total, part) = part.split_last().unwrap();
         let values = |element: &[u32]| std::array::from_fn(|n| element[n].into());
         let phi0: Vec<Nodes> = part.chunks(10).map(values).collect();
         let rest = |at: usize| i64::from(part[10 * at + 9]);
@@ -184,6 +185,8 @@ impl Reading<'_> {
             numbers.extend(closed(&psi, target));
             clipped.push(below_zero(&psi, target));
         }
+        // "a step leaves it"
+        numbers.push(*total);
         let report = moved.iter().map(|&g| g as i32).collect();
         Stepped {
             numbers,

@@ -1,4 +1,4 @@
-//! What tests of whole lists share: the ledger, and which smoke a call is on.
+//! What tests of whole lists share.
 
 use reference::checks::weighted_numbers;
 use reference::flux::face_elements;
@@ -53,15 +53,5 @@ impl Ledger {
             // on the wind as well; a reading writes nothing.
             _ => {}
         }
-    }
-}
-
-/// "A call is on the smoke whose number it names", a wind call or a wind
-/// import on none.
-pub fn smoke_of(call: &Call) -> Option<usize> {
-    match call {
-        Call::Wind(..) | Call::Import(_) => None,
-        Call::Load(s, _) | Call::Step(s) | Call::Total(s) | Call::Mass(s, _, _) => Some(*s),
-        Call::Emission(s, _, _, _) | Call::Withdrawal(s, _, _, _) => Some(*s),
     }
 }

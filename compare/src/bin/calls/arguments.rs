@@ -4,8 +4,8 @@ use crate::buffers::{Buffer, Buffers};
 use crate::call::{Face, Grid, Operation, Place};
 use crate::records::lay_records;
 use compare::{content, files};
-use reference::checks::{element_mass, smoke_total};
-use reference::file::encoded;
+use reference::checks::{element_mass, stored_total};
+use reference::file::encoded_as;
 use reference::rng::Rng;
 use reference::shape::{LIMIT, NODES, PER_ELEMENT};
 use reference::Shape;
@@ -29,7 +29,7 @@ pub fn surplus(rng: &mut Rng) -> usize {
 /// Any operation, steps most often; numbers, records, files and pages that it takes are laid in the buffers.
 pub fn operation(rng: &mut Rng, b: &mut Buffers, shape: Shape) -> Operation {
     let at = place(rng, shape);
-    match rng.below(120) {
+    match rng.below(126) {
         0..=1 => Operation::Fresh,
         2..=14 => Operation::Wind(face(rng, shape), rng.wind()),
         15..=24 => {
@@ -43,13 +43,13 @@ pub fn operation(rng: &mut Rng, b: &mut Buffers, shape: Shape) -> Operation {
         32..=44 => Operation::Emission(at, emitted(rng, b, shape, at)),
         45..=57 => Operation::Withdrawal(at, withdrawn(rng, b, shape, at)),
         58..=86 => Operation::Step(at.smoke),
-        87..=90 => Operation::Mass(at),
-        91..=93 => Operation::Total(at.smoke),
-        94..=103 => {
+        87..=94 => Operation::Mass(at),
+        95..=98 => Operation::Total(at.smoke),
+        99..=108 => {
             lay_page(rng, b, shape);
             Operation::Map(at.smoke)
         }
-        104..=113 => {
+        109..=119 => {
             lay_file(rng, b, shape);
             Operation::Read
         }
@@ -73,11 +73,11 @@ fn face(rng: &mut Rng, shape: Shape) -> Face {
     }
 }
 
-/// A smoke's total, where the field and the smoke are there.
+/// A smoke's stored total, where the field and the smoke are there.
 pub fn total_of(b: &Buffers, shape: Shape, smoke: usize) -> u64 {
     let there = b.field.room() >= shape.field_len() && smoke < shape.k;
     match there {
-        true => smoke_total(b.field.space(), shape, smoke),
+        true => stored_total(b.field.space(), shape, smoke),
         false => 0,
     }
 }
@@ -92,7 +92,8 @@ pub fn mass_of(b: &Buffers, shape: Shape, at: Place) -> u64 {
     element_mass(&b.field.space()[start..start + PER_ELEMENT])
 }
 
-fn emitted(rng: &mut Rng, b: &Buffers, shape: Shape, at: Place) -> u64 {
+/// What an emission may bring: the limit counts from the stored total.
+pub fn emitted(rng: &mut Rng, b: &Buffers, shape: Shape, at: Place) -> u64 {
     let room = LIMIT.saturating_sub(total_of(b, shape, at.smoke));
     match rng.below(12) {
         0 => room,
@@ -104,7 +105,8 @@ fn emitted(rng: &mut Rng, b: &Buffers, shape: Shape, at: Place) -> u64 {
     }
 }
 
-fn withdrawn(rng: &mut Rng, b: &Buffers, shape: Shape, at: Place) -> u64 {
+/// What a withdrawal may take: no more than the element holds.
+pub fn withdrawn(rng: &mut Rng, b: &Buffers, shape: Shape, at: Place) -> u64 {
     let held = mass_of(b, shape, at);
     match rng.below(9) {
         0 | 1 => held,
@@ -118,8 +120,8 @@ fn withdrawn(rng: &mut Rng, b: &Buffers, shape: Shape, at: Place) -> u64 {
 
 /// The nine values of each element of a random smoke, with surplus of any content.
 fn lay_numbers(rng: &mut Rng, b: &mut Buffers, shape: Shape) {
-    let part = content::smoke(rng, shape);
-    let values = part.chunks_exact(PER_ELEMENT).map(|e| &e[..NODES]);
+    let elements = content::elements(rng, shape);
+    let values = elements.chunks_exact(PER_ELEMENT).map(|e| &e[..NODES]);
     let mut numbers = values.collect::<Vec<_>>().concat();
     if rng.once_in(6) {
         // With the remainders gone the total is below the limit: a corner takes what is missing.
@@ -139,16 +141,17 @@ fn lay_page(rng: &mut Rng, b: &mut Buffers, shape: Shape) {
     b.page = Buffer::new(&files::bytes(rng, count), 0x3C);
 }
 
-/// A file: of the field as it is, of another field, or of another shape.
+/// A file of either mark: of the field as it is, of another field, or of another shape.
 fn lay_file(rng: &mut Rng, b: &mut Buffers, shape: Shape) {
+    let mark = files::any_mark(rng);
     let holds = b.field.room() >= shape.field_len() && b.wind.room() >= shape.wind_len();
     let file = match rng.below(8) {
-        0 if holds => encoded(b.field.space(), b.wind.space(), shape),
+        0 if holds => encoded_as(mark, b.field.space(), b.wind.space(), shape),
         1 => {
             let other = content::shape(rng, 200);
-            files::sound(rng, other)
+            files::sound(rng, mark, other)
         }
-        _ => files::sound(rng, shape),
+        _ => files::sound(rng, mark, shape),
     };
     b.file = Buffer::new(&file, 0xA5);
 }

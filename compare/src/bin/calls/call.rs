@@ -1,6 +1,7 @@
 //! A call with its arguments, the twelve calls as one trait, and what an answer says.
 
 use crate::buffers::Buffers;
+use reference::Shape;
 
 /// A shape as the caller offers it, admitted or not.
 #[derive(Clone, Copy, Debug, PartialEq)]
@@ -8,6 +9,17 @@ pub struct Grid {
     pub nx: usize,
     pub ny: usize,
     pub smokes: usize,
+}
+
+impl Grid {
+    /// As the reference writes an admitted shape.
+    pub fn shape(self) -> Shape {
+        Shape {
+            nx: self.nx,
+            ny: self.ny,
+            k: self.smokes,
+        }
+    }
 }
 
 /// An element of a smoke as the caller names it.

@@ -3,6 +3,8 @@
 use crate::buffers::Buffers;
 use crate::call::{make, Call, Calls, Operation};
 use crate::list::Expected;
+use reference::file::encoded_as;
+use reference::Mark;
 
 /// The buffers of the two sides, and both as they were before the call.
 pub struct Comparison {
@@ -44,11 +46,17 @@ impl Comparison {
             let needed = 64 * call.grid.nx * call.grid.ny;
             self.theirs.work.copy_front_from(&self.ours.work, needed);
         }
-        self.same(refused, expected, answer)?;
+        self.same(call, refused, expected, answer)?;
         Ok(answer)
     }
 
-    fn same(&self, refused: bool, expected: Expected, answer: i64) -> Result<(), String> {
+    fn same(
+        &self,
+        call: &Call,
+        refused: bool,
+        expected: Expected,
+        answer: i64,
+    ) -> Result<(), String> {
         if let Some(what) = self.ours.difference(&self.theirs) {
             return Err(format!("library and reference leave {what}"));
         }
@@ -67,6 +75,16 @@ impl Comparison {
             Expected::SameFile => {
                 let same = ours.out.lent().get(..answer as usize) == Some(ours.file.lent());
                 (!same).then(|| "other bytes than the file that was read".to_string())
+            }
+            Expected::NewMark => {
+                let file = |mark| {
+                    let (field, wind) = (ours.field.lent(), ours.wind.lent());
+                    encoded_as(mark, field, wind, call.grid.shape())
+                };
+                let written = ours.out.lent().get(..answer as usize);
+                let same =
+                    ours.file.lent() == file(Mark::Plum) && written == Some(&file(Mark::Plu2)[..]);
+                (!same).then(|| "more than the totals, the offsets and the mark".to_string())
             }
         };
         match broken {

@@ -4,7 +4,7 @@
 use crate::buffers::Buffers;
 use crate::call::{Call, Operation};
 use reference::calls::signed_values;
-use reference::checks::{element_mass, smoke_part};
+use reference::checks::{element_mass, smoke_elements};
 use reference::closing::{floor_div, Nodes};
 use reference::flux::{corrected, donor, face_amounts, face_elements};
 use reference::held::Held;
@@ -44,8 +44,6 @@ pub struct Coverage {
     whole_blocks: u64,
     blank_columns: u64,
     large_maps: u64,
-    pub read_back: u64,
-    pub written_again: u64,
 }
 
 impl Coverage {
@@ -58,11 +56,7 @@ impl Coverage {
         before: &Buffers,
         after: &Buffers,
     ) -> Result<(), String> {
-        let shape = Shape {
-            nx: call.grid.nx,
-            ny: call.grid.ny,
-            k: call.grid.smokes,
-        };
+        let shape = call.grid.shape();
         match call.operation {
             Operation::Step(smoke) => {
                 self.clipped += u64::from(answer > 0);
@@ -109,7 +103,7 @@ impl Coverage {
         if shape.elements() > LOOKED_INTO || !rng.once_in(4) {
             return Ok(());
         }
-        let part = smoke_part(before.field.lent(), shape, smoke);
+        let part = smoke_elements(before.field.lent(), shape, smoke);
         let faces = before.wind.lent();
         let met = Met::of(Winds { shape, faces }, part);
         self.looked_into += 1;
@@ -149,10 +143,6 @@ impl Coverage {
         println!(
             "{} maps accepted, {} of whole blocks, {} of several blocks with columns missing in the last, {} on {LARGE} elements or more",
             self.maps, self.whole_blocks, self.blank_columns, self.large_maps
-        );
-        println!(
-            "{} written files read back, {} read files written again",
-            self.read_back, self.written_again
         );
     }
 }

@@ -3,10 +3,11 @@
 use crate::arguments::{grid_of, operation, surplus};
 use crate::buffers::{Buffer, Buffers};
 use crate::call::{Call, Operation};
+use crate::field::mend;
 use crate::wild::spoil;
 use compare::{content, files};
 use reference::rng::Rng;
-use reference::Shape;
+use reference::{Mark, Shape};
 
 /// What an accepted call must leave beside what the reference says.
 #[derive(Clone, Copy, PartialEq)]
@@ -14,9 +15,14 @@ pub enum Expected {
     Nothing,
     /// "a field written to a file is the field read from it"
     SameField,
-    /// "an accepted file, written again, has the same bytes"
+    /// "only files with the new mark come back byte for byte" (document 02, 2026-06)
     SameFile,
+    /// ""PLUM" is still read, its totals worked out, and such a file is written again as "PLU2"" (document 02, 2026-06)
+    NewMark,
 }
+
+/// Once in so many calls the host mends its field first: an accepted call may leave a smoke that others refuse with 6.
+const MENDED: u64 = 4;
 
 pub struct List {
     /// The shape of what field and wind hold now.
@@ -77,6 +83,9 @@ impl List {
             _ => self.shape,
         };
         let any_bits = std::mem::replace(&mut self.any_bits, false);
+        if expected == Expected::Nothing && !any_bits && rng.once_in(MENDED) {
+            mend(rng, b, self.shape);
+        }
         let operation = match expected {
             Expected::Nothing if any_bits && !rng.once_in(8) => Operation::Fresh,
             Expected::Nothing => operation(rng, b, shape),
@@ -84,7 +93,7 @@ impl List {
                 b.file = Buffer::new(&b.out.space()[..self.written], 0xA5);
                 Operation::Read
             }
-            Expected::SameFile => {
+            Expected::SameFile | Expected::NewMark => {
                 b.out = out(rng, shape);
                 Operation::Write
             }
@@ -145,15 +154,14 @@ impl List {
                     ny: number / 256 % 256,
                     k: number / 65_536,
                 };
-                self.next = rng.pick(&[Expected::Nothing, Expected::SameFile]);
+                let again = match b.file.lent().ends_with(Mark::Plum.bytes()) {
+                    true => Expected::NewMark,
+                    false => Expected::SameFile,
+                };
+                self.next = rng.pick(&[Expected::Nothing, again]);
             }
             Operation::Write if rng.once_in(2) => {
-                let Call { grid, .. } = *call;
-                self.shape = Shape {
-                    nx: grid.nx,
-                    ny: grid.ny,
-                    k: grid.smokes,
-                };
+                self.shape = call.grid.shape();
                 self.written = number;
                 self.next = Expected::SameField;
             }
@@ -164,7 +172,7 @@ impl List {
 
 /// Room for a file, of any content.
 fn out(rng: &mut Rng, shape: Shape) -> Buffer<u8> {
-    let count = shape.file_len() + surplus(rng);
+    let count = shape.file_len(Mark::Plu2) + surplus(rng);
     Buffer::new(&files::bytes(rng, count), 0x5A)
 }
 
@@ -177,7 +185,7 @@ fn lend(rng: &mut Rng, b: &mut Buffers, shape: Shape) {
     b.report.lend(count(shape.wind_len()));
     b.work.lend(count(shape.work_len()));
     b.numbers.lend(count(shape.load_len()));
-    b.out.lend(count(shape.file_len()));
+    b.out.lend(count(shape.file_len(Mark::Plu2)));
     b.page.lend(count(shape.page_len()));
     // the length of these two is part of what they say
     b.records.lend(usize::MAX);

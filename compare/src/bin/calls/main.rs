@@ -4,14 +4,17 @@
 mod arguments;
 mod buffers;
 mod call;
+mod causes;
 mod comparison;
 mod coverage;
+mod field;
 mod library;
 mod list;
 mod other;
 mod pages;
 mod records;
 mod table;
+mod totals;
 mod wild;
 
 use call::{Call, KINDS};
@@ -24,12 +27,18 @@ use reference::rng::Rng;
 use std::process::ExitCode;
 use std::time::Instant;
 use table::Table;
+use totals::Totals;
+
+/// From how many calls on each answer must be met, and each cause of 6.
+const ENOUGH: u64 = 20_000;
+const ENOUGH_FOR_CAUSES: u64 = 100_000;
 
 /// Everything that a run counts.
 #[derive(Default)]
 struct Run {
     table: Table,
     coverage: Coverage,
+    totals: Totals,
     /// How many pages at the edges were equal.
     pages: u64,
     /// Whether each call is printed before it is made: a library that crashes says nothing itself.
@@ -51,9 +60,8 @@ impl Run {
             self.coverage
                 .accepted(rng, &call, answer, &c.before, &c.ours)
                 .map_err(|what| format!("{}\n{what}", described(&call, c)))?;
-            self.coverage.read_back += u64::from(expected == Expected::SameField);
-            self.coverage.written_again += u64::from(expected == Expected::SameFile);
         }
+        self.totals.count(&call, expected, answer, &c.before);
         list.after(rng, &call, answer, &mut c.ours);
         Ok(())
     }
@@ -123,11 +131,18 @@ fn main() -> ExitCode {
     println!("{} pages at the edges equal", run.pages);
     run.table.print();
     run.coverage.print();
+    run.totals.print();
     if let Err(what) = ended {
         println!("{what}");
         return ExitCode::from(1);
     }
-    let missing = run.table.missing();
+    let mut missing = Vec::new();
+    if count >= ENOUGH {
+        missing.extend(run.table.missing());
+    }
+    if count >= ENOUGH_FOR_CAUSES {
+        missing.extend(run.totals.missing());
+    }
     if !missing.is_empty() {
         println!("NOT MET, seed {seed}: {}", missing.join(", "));
         return ExitCode::from(1);

@@ -16,11 +16,12 @@ pub fn elements(nx: usize, ny: usize) -> Vec<usize> {
     elements
 }
 
-/// The map of smoke 0 with a total of 100,000,000 at one corner of an element. The page is lent just its length.
+/// The map of smoke 0 with 100,000,000 at one corner of an element, and so for its stored total. The page is lent just its length.
 pub fn full_element(b: &mut Buffers, nx: usize, ny: usize, element: usize) -> Call {
     let shape = Shape { nx, ny, k: 1 };
     let mut field = vec![0; shape.field_len()];
     field[shape.place(0, element % nx, element / nx)] = LIMIT as u32;
+    field[shape.total_place(0)] = LIMIT as u32;
     b.field = Buffer::new(&field, 0xDEAD_BEEF);
     b.page = Buffer::new(&vec![b'?'; shape.page_len()], 0x3C);
     Call {

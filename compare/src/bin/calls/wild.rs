@@ -3,26 +3,26 @@
 use crate::arguments::{mass_of, total_of};
 use crate::buffers::{Buffer, Buffers};
 use crate::call::{Call, Grid, Operation, Place};
+use crate::field::spoil_stored_field;
 use crate::records::spoil_records;
-use compare::{content, damage, files};
-use reference::checks::smoke_part;
+use compare::{damage, files};
 use reference::file::file_shape;
 use reference::rng::Rng;
-use reference::shape::{LIMIT, NODES, PER_ELEMENT};
-use reference::Shape;
+use reference::shape::{LIMIT, NODES};
+use reference::{Mark, Shape};
 
 /// Lays one fault. Some do not regard the call, as a bad number of another smoke: then they must not show in its answer.
 pub fn spoil(rng: &mut Rng, call: &mut Call, b: &mut Buffers, shape: Shape) {
     let reads = matches!(call.operation, Operation::Read);
     let imports = matches!(call.operation, Operation::Import);
-    match rng.below(12) {
+    match rng.below(18) {
         // a reading names no shape, its file has many parts
-        0 | 1 | 4..=6 if reads => spoil_file(rng, b),
+        0 | 1 | 4..=12 if reads => spoil_file(rng, b),
         0 | 1 => spoil_grid(rng, &mut call.grid),
         2 | 3 => lend_short(rng, call, b, shape),
         4 => spoil_stored_wind(rng, b, shape),
         // an import is lent no field
-        5 | 6 if !imports => spoil_stored_field(rng, call, b, shape),
+        5..=12 if !imports => spoil_stored_field(rng, call, b, shape),
         _ => spoil_arguments(rng, call, b, shape),
     }
 }
@@ -83,7 +83,7 @@ fn lend_short(rng: &mut Rng, call: &Call, b: &mut Buffers, shape: Shape) {
         (Operation::Load(_), 0 | 1) => b.numbers.lend(short(rng, shape.load_len())),
         (Operation::Step(_), 0) => b.report.lend(short(rng, shape.wind_len())),
         (Operation::Step(_), 1) => b.work.lend(short(rng, shape.work_len())),
-        (Operation::Write, 0 | 1) => b.out.lend(short(rng, shape.file_len())),
+        (Operation::Write, 0 | 1) => b.out.lend(short(rng, shape.file_len(Mark::Plu2))),
         (Operation::Map(_), 0 | 1) => b.page.lend(short(rng, shape.page_len())),
         (Operation::Read, 0) => b.file.lend(rng.index(b.file.room() + 1)),
         (Operation::Fresh | Operation::Step(_) | Operation::Write | Operation::Read, 2) => {
@@ -102,43 +102,6 @@ fn spoil_stored_wind(rng: &mut Rng, b: &mut Buffers, shape: Shape) {
     };
     let at = rng.index(among);
     wind[at] = rng.pick(&[1025, -1025, i16::MAX, i16::MIN, 1024, -1024]);
-}
-
-/// The smoke that a call names, most often; else any.
-fn named_smoke(rng: &mut Rng, call: &Call, shape: Shape) -> usize {
-    let named = match call.operation {
-        Operation::Emission(at, _) | Operation::Withdrawal(at, _) | Operation::Mass(at) => at.smoke,
-        Operation::Load(smoke)
-        | Operation::Step(smoke)
-        | Operation::Total(smoke)
-        | Operation::Map(smoke) => smoke,
-        _ => usize::MAX,
-    };
-    match named < shape.k && !rng.once_in(3) {
-        true => named,
-        false => rng.index(shape.k),
-    }
-}
-
-fn spoil_stored_field(rng: &mut Rng, call: &Call, b: &mut Buffers, shape: Shape) {
-    if b.field.room() < shape.field_len() {
-        return;
-    }
-    let smoke = named_smoke(rng, call, shape);
-    let start = shape.place(smoke, 0, 0);
-    let field = b.field.space_mut();
-    let left = LIMIT.checked_sub(content::total(smoke_part(field, shape, smoke)));
-    let element = start + PER_ELEMENT * rng.index(shape.elements());
-    let part = &mut field[start..start + shape.smoke_len()];
-    match (rng.below(7), left) {
-        (0, Some(left)) => content::fill_up(rng, part, left),
-        (1, Some(left)) => content::fill_up(rng, part, left + 1),
-        (2, _) => part.fill(u32::MAX),
-        // sixteen of these are 2^32
-        (3, _) => field[element + 4] = 1 << 28,
-        (4, _) => *field.last_mut().expect("a field is not empty") = u32::MAX,
-        _ => field[element + NODES] = rng.pick(&[36, 36, 37, 255, 256, 1 << 16, u32::MAX, 35]),
-    }
 }
 
 fn spoil_arguments(rng: &mut Rng, call: &mut Call, b: &mut Buffers, shape: Shape) {
@@ -174,7 +137,7 @@ fn spoil_arguments(rng: &mut Rng, call: &mut Call, b: &mut Buffers, shape: Shape
     }
 }
 
-fn off_grid(rng: &mut Rng, shape: Shape, i: &mut usize, j: &mut usize) {
+pub fn off_grid(rng: &mut Rng, shape: Shape, i: &mut usize, j: &mut usize) {
     match rng.below(4) {
         0 | 1 => *i = beyond(rng, shape.nx),
         2 => *j = beyond(rng, shape.ny),
@@ -236,9 +199,11 @@ fn spoil_file(rng: &mut Rng, b: &mut Buffers) {
     match (rng.below(12), file_shape(&file)) {
         (0, _) => file = files::bytes(rng, length),
         (1, _) => file = files::tailed(rng, length),
-        (2, Ok(shape)) => file = files::wild_content(rng, shape),
-        (_, Ok(shape)) => damage::damage(rng, &mut file, shape),
-        (_, Err(_)) => file.truncate(length),
+        (2, Ok((mark, shape))) => file = files::wild_content(rng, mark, shape),
+        (3..=6, Ok((mark, shape))) => damage::content_damage(rng, &mut file, mark, shape),
+        (_, Ok((mark, shape))) => damage::damage(rng, &mut file, mark, shape),
+        (3..=6, Err(_)) => file.truncate(length),
+        (_, Err(_)) => {}
     }
     b.file = Buffer::new(&file, 0xA5);
 }

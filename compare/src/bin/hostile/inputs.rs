@@ -2,9 +2,9 @@
 
 use compare::content;
 use compare::damage::damage;
-use compare::files::{bytes, sound, tailed, wild_content};
+use compare::files::{any_mark, bytes, sound, tailed, wild_content};
 use reference::rng::Rng;
-use reference::Shape;
+use reference::{Mark, Shape};
 
 /// The largest file that the program looks at.
 const LARGEST: usize = 65_536;
@@ -14,21 +14,22 @@ const ELEMENTS: usize = 128;
 
 pub struct Inputs {
     rng: Rng,
-    /// Shapes whose files are about as long as the largest.
-    near_largest: Vec<Shape>,
+    /// Marks and shapes whose files are about as long as the largest.
+    near_largest: Vec<(Mark, Shape)>,
 }
 
-fn shapes() -> impl Iterator<Item = Shape> {
+fn layouts() -> impl Iterator<Item = (Mark, Shape)> {
     let sides = (1..=64).flat_map(|nx| (1..=64).map(move |ny| (nx, ny)));
-    sides.flat_map(|(nx, ny)| (1..=8).map(move |k| Shape { nx, ny, k }))
+    let shapes = sides.flat_map(|(nx, ny)| (1..=8).map(move |k| Shape { nx, ny, k }));
+    shapes.flat_map(|shape| [(Mark::Plum, shape), (Mark::Plu2, shape)])
 }
 
 impl Inputs {
     pub fn new(seed: u64) -> Inputs {
-        let near = |shape: &Shape| shape.file_len().abs_diff(LARGEST) < 600;
+        let near = |(mark, shape): &(Mark, Shape)| shape.file_len(*mark).abs_diff(LARGEST) < 600;
         Inputs {
             rng: Rng::new(seed),
-            near_largest: shapes().filter(near).collect(),
+            near_largest: layouts().filter(near).collect(),
         }
     }
 
@@ -54,22 +55,26 @@ impl Inputs {
                 bytes(rng, count)
             }
             19..=34 => {
-                let shape = self.shape();
-                sound(&mut self.rng, shape)
+                let (mark, shape) = self.layout();
+                sound(&mut self.rng, mark, shape)
             }
             35..=41 => {
-                let shape = self.shape();
-                wild_content(&mut self.rng, shape)
+                let (mark, shape) = self.layout();
+                wild_content(&mut self.rng, mark, shape)
             }
             42..=92 => {
-                let shape = self.shape();
-                let mut file = sound(&mut self.rng, shape);
-                damage(&mut self.rng, &mut file, shape);
+                let (mark, shape) = self.layout();
+                let mut file = sound(&mut self.rng, mark, shape);
+                damage(&mut self.rng, &mut file, mark, shape);
                 file
             }
             93..=95 => self.joined(),
             _ => self.long(),
         }
+    }
+
+    fn layout(&mut self) -> (Mark, Shape) {
+        (any_mark(&mut self.rng), self.shape())
     }
 
     /// Small shapes most often; some of nearly, exactly or just over 128 elements; a few of any.
@@ -102,9 +107,9 @@ impl Inputs {
 
     /// Two files one after the other: the reader starts at the end and must see that the length is wrong.
     fn joined(&mut self) -> Vec<u8> {
-        let (first, second) = (self.shape(), self.shape());
-        let mut file = sound(&mut self.rng, first);
-        file.extend(sound(&mut self.rng, second));
+        let ((mark, first), (other, second)) = (self.layout(), self.layout());
+        let mut file = sound(&mut self.rng, mark, first);
+        file.extend(sound(&mut self.rng, other, second));
         file
     }
 
@@ -122,14 +127,14 @@ impl Inputs {
             }
             4 => {
                 // a sound file behind bytes that make it just as long as the program takes, or one more
-                let shape = self.shape();
-                let file = sound(&mut self.rng, shape);
+                let (mark, shape) = self.layout();
+                let file = sound(&mut self.rng, mark, shape);
                 let front = (LARGEST + self.rng.index(2)).saturating_sub(file.len());
                 [vec![0; front], file].concat()
             }
             _ => {
-                let shape = self.near_largest[rng.index(self.near_largest.len())];
-                sound(rng, shape)
+                let (mark, shape) = self.near_largest[rng.index(self.near_largest.len())];
+                sound(rng, mark, shape)
             }
         }
     }

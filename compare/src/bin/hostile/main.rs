@@ -6,7 +6,7 @@ mod process;
 
 use inputs::Inputs;
 use process::{Program, Ran};
-use reference::{map_program, program};
+use reference::{map_program, program, Mark};
 use std::fs;
 use std::path::{Path, PathBuf};
 use std::process::ExitCode;
@@ -43,8 +43,8 @@ struct Hostile {
     prints: Prints,
     inputs: Inputs,
     runs: u64,
-    /// Accepted files, and refused ones by number.
-    met: [u64; 7],
+    /// Accepted files, and refused ones by number: of those that end in "PLUM", in "PLU2", and of all others.
+    met: [[u64; 7]; 3],
     start: Instant,
     /// When progress was last told.
     said: Instant,
@@ -70,6 +70,13 @@ fn answer(text: &str) -> usize {
     number.map_or(0, |n| n.parse().expect("the reference prints a number"))
 }
 
+/// The place of a file among those that are counted, by its mark.
+fn ending(file: &[u8]) -> usize {
+    let marks = [Mark::Plum, Mark::Plu2];
+    let place = marks.iter().position(|mark| file.ends_with(mark.bytes()));
+    place.unwrap_or(marks.len())
+}
+
 impl Hostile {
     /// One file through the program.
     fn run(&mut self, file: &[u8], what: &str) -> Result<(), String> {
@@ -85,7 +92,7 @@ impl Hostile {
         if let Some(wrong) = wrong {
             return Err(format!("{what}: {wrong}; {}", kept(file)));
         }
-        self.met[answer(&right)] += 1;
+        self.met[ending(file)][answer(&right)] += 1;
         self.runs += 1;
         if self.said.elapsed() >= PROGRESS {
             self.said = Instant::now();
@@ -159,10 +166,12 @@ fn all(hostile: &mut Hostile, samples: &Path, count: u64, seed: u64) -> Result<(
         hostile.sample(samples, name)?;
     }
     hostile.random(count, seed)?;
-    match hostile.met.iter().position(|&n| n == 0) {
-        Some(number) if count >= ENOUGH => Err(format!("answer {number} was never met")),
-        _ => Ok(()),
+    for (mark, met) in ["PLUM", "PLU2"].iter().zip(&hostile.met) {
+        if let (Some(number), true) = (met.iter().position(|&n| n == 0), count >= ENOUGH) {
+            return Err(format!("answer {number} to a {mark:?} file was never met"));
+        }
     }
+    Ok(())
 }
 
 /// PROGRAM, what it prints, SAMPLES, COUNT and SEED, where the words are that.
@@ -192,13 +201,15 @@ fn main() -> ExitCode {
         prints,
         inputs: Inputs::new(seed),
         runs: 0,
-        met: [0; 7],
+        met: [[0; 7]; 3],
         start: Instant::now(),
         said: Instant::now(),
     };
     let ended = all(&mut hostile, &samples, count, seed);
     let seconds = hostile.start.elapsed().as_secs_f64();
-    println!("accepted, then refused 1 to 6: {:?}", hostile.met);
+    for (what, met) in ["\"PLUM\"", "\"PLU2\"", "no mark"].iter().zip(hostile.met) {
+        println!("{what}: accepted, then refused 1 to 6: {met:?}");
+    }
     match ended {
         Ok(()) => {
             println!(

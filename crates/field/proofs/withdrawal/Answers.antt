@@ -1,68 +1,26 @@
--- Withdrawal: each refusal is the definition's by what the reading of the mass says; an accepted one writes the element in place, as an
--- emission does.
+-- Withdrawal: each refusal is the definition's by what the reading of the element and the stored total says; an accepted one writes the element and
+-- then the stored total in place, which is the tracer's part with both replaced.
 use mathlib.Core.Path.{◌≡◌, sym, ap, ◌∙◌}
 use Prim.Native.Nat.{◌≤◌, ◌+◌, ◌-◌}
 use native.Mathlib.Omega.{arith}
 use native.Mathlib.Nat.{add-sub_cancel_left}
 use lib.ListN.{length, take, drop}
-use Rattle.rules.proofs.AnswerLaws.{passed_on}
-use Rattle.field_layout.proofs.GridLaws.{refused-2}
 use Rattle.rules.specs.Answers.{accepted}
-use Rattle.rules.specs.Field.{quadratic, element, mass, part}
-use Rattle.rules.specs.Calls.{withdrawal, done, mass_reading, withdrawn}
+use Rattle.rules.specs.Field.{quadratic, element, field_length, mass, part}
+use Rattle.rules.specs.Calls.{withdrawal, withdrawn, done}
+use Rattle.rules.proofs.AnswerLaws.{passed_on}
 use Rattle.rules.proofs.CallLaws.{length-withdrawn}
-use Rattle.field_layout.specs.Places.{element_start}
-use Rattle.field.proofs.CheckLaws.{grid-refused, Held, held, call-refused, call-accepted, on_shape, call-bad-shape, withdrawal-refused, withdrawal-over, withdrawal-accepted}
+use Rattle.field_layout.specs.Places.{Inside}
+use Rattle.field_layout.proofs.GridLaws.{refused-2}
+use Rattle.field_layout.proofs.PlaceLaws.{field_is, field-le}
+use Rattle.field.proofs.CheckLaws.{Held, held, grid-refused, call-refused, call-accepted, on_shape, call-bad-shape, withdrawal-refused, withdrawal-over, withdrawal-accepted}
 use Rattle.field.proofs.InPlaceLaws.{mass-lent, withdrawn-lent, back-in-place}
 use Rattle.field.proofs.withdrawal.Goals as goal
-use Rattle.field.proofs.withdrawal.Goals.{After-element_start-start, In_ok-held}
+use Rattle.field.proofs.withdrawal.Goals.{After-element_start-start, After-withdraw-clipped, In_ok-named}
 
--- what the reading of the mass says, and with it of the element
-read : (c : In_ok-held) → mass_reading quadratic c.in_ok-grid.grid.shape c.args.tracer c.args.i c.args.j c.args.field.now ≡ accepted c.in_ok-held.held
-read c = sym c.in_ok-held.ensures
-
-known : (c : In_ok-held) → Held c.in_ok-grid.grid.shape c.args.tracer c.args.i c.args.j c.args.field.now c.in_ok-held.held
-known c = let a = c.args in
-    let g = c.in_ok-grid.grid.shape in held g a.tracer a.i a.j a.field.now _ (read c)
-
-pub returns-then-held-q : goal.returns-then-held-q
-returns-then-held-q c = grid-refused _ _ _ c.in_ok-grid.ensures.1 (withdrawal-over _ _ _ _ _ _ _ (read (goal.at.returns-then-held-q c).In_ok-held) c.if-held-q.true)
-
-pub element_start-start-requires : goal.element_start-start-requires
-element_start-start-requires c = (known (goal.at.element_start-start-requires c).In_ok-held).within
-
--- the element ends within the field
-ends : (c : After-element_start-start) → c.element_start-start.result + 10 ≤ length c.args.field.now
-ends c = omega (arith, c.element_start-start.ensures.room, (known c.before.before).room)
-
-pub offset_bounds-field-start : goal.offset_bounds-field-start
-offset_bounds-field-start c = omega (arith, ends (goal.at.offset_bounds-field-start c).After-element_start-start)
-
-pub slice_bounds-withdraw-end : goal.slice_bounds-withdraw-end
-slice_bounds-withdraw-end c = ends (goal.at.slice_bounds-withdraw-end c).After-element_start-start
-
--- what is lent holds the element's mass
-lent-mass : (c : After-element_start-start) → let r = c.element_start-start.result in mass quadratic (take (r + 10 - r) (drop r c.args.field.now)) 0 ≡ c.in_ok-held.held
-lent-mass c =
-    let a = c.args in
-    let g = c.in_ok-grid.grid.shape in
-    let k = known c.before.before in
-    let st = element_start g a.tracer a.i a.j in
-    rw c.element_start-start.ensures.start (mass-lent g a.tracer a.i a.j a.field.now k.within k.room (st + 10 - st) (add-sub_cancel_left st 10)) ∙ sym k.is
-
-pub withdraw-requires-clause-part_bound : goal.withdraw-requires-clause-part_bound
-withdraw-requires-clause-part_bound c =
-    let at = goal.at.withdraw-requires-clause-part_bound c in
-    omega (arith, lent-mass at.After-element_start-start, (known at.In_ok-held).small)
-
-pub withdraw-requires-clause-q_bound : goal.withdraw-requires-clause-q_bound
-withdraw-requires-clause-q_bound c = omega (arith, lent-mass (goal.at.withdraw-requires-clause-q_bound c).After-element_start-start, c.if-held-q.false)
-
-pub returns-in_err-held : goal.returns-in_err-held
-returns-in_err-held c =
-    let r = c.from_residual-in_err-held in
-    let e = grid-refused _ _ _ c.in_ok-grid.ensures.1 (withdrawal-refused _ _ _ _ _ _ _ (sym c.in_err-held.ensures)) in
-    (passed_on r.result _ r.ensures.1 ∙ e.0, e.1)
+-- what the reading of the element and the stored total says
+known : (c : In_ok-named) → Held c.in_ok-grid.grid.shape c.args.tracer c.args.i c.args.j c.args.field.now c.in_ok-named.named
+known c = let a = c.args in held c.in_ok-grid.grid.shape a.tracer a.i a.j a.field.now _ (sym c.in_ok-named.ensures)
 
 pub returns-in_err-grid : goal.returns-in_err-grid
 returns-in_err-grid c =
@@ -70,18 +28,76 @@ returns-in_err-grid c =
     let e = call-refused _ a.shape a.tracer (withdrawal a.i a.j a.q) a.field.now 2 (call-bad-shape a.shape a.tracer (withdrawal a.i a.j a.q) a.field.now c.in_err-grid.ensures.0) in
     (refused-2 a.shape c.from_residual.result _ c.from_residual.ensures.1 c.in_err-grid.ensures ∙ e.0, e.1)
 
+pub returns-in_err-named : goal.returns-in_err-named
+returns-in_err-named c =
+    let r = c.from_residual-in_err-named in
+    let e = grid-refused _ _ _ c.in_ok-grid.ensures.1 (withdrawal-refused _ _ _ _ _ _ _ (sym c.in_err-named.ensures)) in
+    (passed_on r.result _ r.ensures.1 ∙ e.0, e.1)
+
+pub returns-then-named-q : goal.returns-then-named-q
+returns-then-named-q c = grid-refused _ _ _ c.in_ok-grid.ensures.1 (withdrawal-over _ _ _ _ _ _ _ (sym c.in_ok-named.ensures) c.if-named-q.true)
+
+pub element_start-start-requires : goal.element_start-start-requires
+element_start-start-requires c = (known (goal.at.element_start-start-requires c).In_ok-named).within
+
+pub slice_bounds-withdraw-end : goal.slice_bounds-withdraw-end
+slice_bounds-withdraw-end c = omega (arith, c.element_start-start.ensures.room, (known (goal.at.slice_bounds-withdraw-end c).In_ok-named).room)
+
+-- what is lent holds the element's mass, which is at most the stored total
+lent : (c : After-element_start-start) → Held c.in_ok-grid.grid.shape c.args.tracer c.args.i c.args.j c.args.field.now c.in_ok-named.named
+    → let at = c.element_start-start.result in mass quadratic (take (at + 10 - at) (drop at c.args.field.now)) 0 ≡ c.in_ok-named.named.mass
+lent c h =
+    let a = c.args in
+    let at = c.element_start-start.result in
+    mass-lent c.in_ok-grid.grid.shape a.tracer a.i a.j a.field.now h.within h.room at c.element_start-start.ensures.start (at + 10 - at) (add-sub_cancel_left at 10) ∙ sym h.is
+
+pub withdraw-clipped-requires-clause-part_bound : goal.withdraw-clipped-requires-clause-part_bound
+withdraw-clipped-requires-clause-part_bound c =
+    let s = goal.at.withdraw-clipped-requires-clause-part_bound c in
+    let h = known s.In_ok-named in
+    omega (arith, lent s.After-element_start-start h, h.most, h.small)
+
+pub withdraw-clipped-requires-clause-q_bound : goal.withdraw-clipped-requires-clause-q_bound
+withdraw-clipped-requires-clause-q_bound c =
+    let s = goal.at.withdraw-clipped-requires-clause-q_bound c in
+    omega (arith, lent s.After-element_start-start (known s.In_ok-named), c.if-named-q.false)
+
+pub overflow_sub-field : goal.overflow_sub-field
+overflow_sub-field c = omega (arith, c.if-named-q.false, (known (goal.at.overflow_sub-field c).In_ok-named).most)
+
+pub overflow_cast-field : goal.overflow_cast-field
+overflow_cast-field c = record { fits = omega (arith, (known (goal.at.overflow_cast-field c).In_ok-named).small) }
+
+pub total_at-requires : goal.total_at-requires
+total_at-requires c = (known (goal.at.total_at-requires c).In_ok-named).within.tracer
+
+pub offset_bounds-field-total_at : goal.offset_bounds-field-total_at
+offset_bounds-field-total_at c = let g = c.in_ok-grid.grid in record { fits = omega (arith, c.total_at.ensures.room, field_is g.shape, field-le g.shape g.admitted) }
+
+-- what the element is closed to is what the definition closes it to in its tracer's part
+closed : (c : After-withdraw-clipped) → Inside c.in_ok-grid.grid.shape c.args.tracer c.args.i c.args.j → field_length quadratic c.in_ok-grid.grid.shape ≤ length c.args.field.now
+    → let at = c.element_start-start.result in
+    withdrawn quadratic 0 c.args.q (take (at + 10 - at) (drop at c.args.field.now)) ≡ withdrawn quadratic (element c.in_ok-grid.grid.shape c.args.i c.args.j) c.args.q (part quadratic c.in_ok-grid.grid.shape c.args.tracer c.args.field.now)
+closed c w r =
+    let a = c.args in
+    let at = c.element_start-start.result in
+    withdrawn-lent c.in_ok-grid.grid.shape a.tracer a.i a.j a.field.now w r at c.element_start-start.ensures.start (at + 10 - at) (add-sub_cancel_left at 10) a.q
+
+pub bounds-field-total_at : goal.bounds-field-total_at
+bounds-field-total_at c = let h = known (goal.at.bounds-field-total_at c).In_ok-named in let r = h.room in omega arith
+
 pub returns : goal.returns
 unfolding done
 returns c =
     let a = c.args in
     let g = c.in_ok-grid.grid.shape in
-    let k = known (goal.at.returns c).In_ok-held in
-    let st = element_start g a.tracer a.i a.j in
-    let n = st + 10 - st in
-    let ten-is = add-sub_cancel_left st 10 in
-    let e = call-accepted _ g a.tracer (withdrawal a.i a.j a.q) a.field.now _ (withdrawal-accepted g a.tracer a.i a.j a.field.now a.q _ (read (goal.at.returns c).In_ok-held) c.if-held-q.false) in
-    let r = c.element_start-start.result in
-    let same : withdrawn quadratic 0 a.q (take (r + 10 - r) (drop r a.field.now)) ≡ withdrawn quadratic (element g a.i a.j) a.q (part quadratic g a.tracer a.field.now) =
-    rw c.element_start-start.ensures.start (withdrawn-lent g a.tracer a.i a.j a.field.now k.within k.room n ten-is a.q) in
-    on_shape _ _ _ _ c.in_ok-grid.ensures.1
-    (ap accepted (c.withdraw.ensures.clipped ∙ ap (λ y. y.clipped) same) ∙ e.0, (rw c.element_start-start.ensures.start (back-in-place g a.tracer a.i a.j a.field.now k.within k.room n ten-is _ _ (c.withdraw.ensures.numbers ∙ ap (λ y. y.numbers) same) (length-withdrawn quadratic (element g a.i a.j) a.q (part quadratic g a.tracer a.field.now)))) ∙ e.1)
+    let at = c.element_start-start.result in
+    let s = goal.at.returns c in
+    let h = known s.In_ok-named in
+    let same = closed s.After-withdraw-clipped h.within h.room in
+    let e = call-accepted _ g a.tracer (withdrawal a.i a.j a.q) a.field.now _ (withdrawal-accepted g a.tracer a.i a.j a.field.now a.q _ (sym c.in_ok-named.ensures) c.if-named-q.false) in
+    on_shape _ _ _ _ c.in_ok-grid.ensures.1 (
+      ap accepted (c.withdraw-clipped.ensures.clipped ∙ ap (λ y. y.clipped) same) ∙ e.0,
+      back-in-place g a.tracer a.i a.j a.field.now h.within h.room at c.element_start-start.ensures.start (at + 10 - at) (add-sub_cancel_left at 10) _ _ (c.withdraw-clipped.ensures.numbers ∙ ap (λ y. y.numbers) same) (length-withdrawn quadratic (element g a.i a.j) a.q (part quadratic g a.tracer a.field.now))
+          c.total_at.result _ _ c.total_at.ensures.place (ap (λ n. n - a.q) h.stored) ∙ e.1,
+    )

@@ -8,7 +8,6 @@ use Rattle.rules.specs.Sizes.{most_elements}
 use Rattle.rules.proofs.GridLaws.{element-lt}
 use Rattle.rules.proofs.ShapeLaws.{all-rows}
 use Rattle.field_elements.proofs.ElementLaws.{weighs-small}
-use Rattle.field_layout.proofs.PlaceLaws.{elements-within}
 use Rattle.field_search.specs.Search.{searched}
 use Rattle.field_search.proofs.SearchLaws.{search-starts, at-element, element-starts, number-added, element-ends, numbers-room, sound-all, total-all, broken, searched-is}
 use Rattle.field_search.proofs.search.Given.{Over}
@@ -21,7 +20,7 @@ room : (g : Over) (c : In-elements g)
 room g c =
     let s = c.args.grid.shape in
     let r = numbers-room s c.elements.invariant.0 c.args.grid.admitted (element-lt s c.elements.i c.rows.j c.elements-test.true c.rows-test.true) in
-    (omega (arith, r.0, c.requires, elements-within s), r.1)
+    (omega (arith, r.0, c.requires), r.1)
 
 pub rows-init : goal.rows-init
 rows-init g c = (search-starts (g.N.Numbers.numbers c.args.numbers.now) c.args.grid.shape.nx, omega arith)

@@ -6,7 +6,8 @@ use lib.Seq.{length-take-le}
 use Prim.Native.Nat.{◌*◌}
 use native.Mathlib.Omega.{arith}
 use Rattle.rules.specs.Answers.{answered, accepted}
-use Rattle.rules.specs.Field.{faces}
+use Rattle.rules.specs.Field.{quadratic, faces}
+use Rattle.rules.specs.FieldFile.{field_sound}
 use Rattle.rules.specs.Bytes.{number16}
 use Rattle.rules.proofs.AnswerLaws.{passed_on}
 use Rattle.file_sections.specs.Numbers.{winds_of}
@@ -31,12 +32,15 @@ shaped c = sym c.read_tail-tail.ensures ∙ ap answered c.in-Ok.is
 pub invariant_of-grid : goal.invariant_of-grid
 invariant_of-grid c = record { admitted = (given c.args.file.now c.in-Ok.shape (shaped (goal.at.invariant_of-grid c).In-Ok)).sizes }
 
+pub read_mark-mark-requires : goal.read_mark-mark-requires
+read_mark-mark-requires c = (given c.args.file.now c.in-Ok.shape (shaped (goal.at.read_mark-mark-requires c).In-Ok)).long
+
 -- every check is passed
-passed : (c : In_ok-check) → shape_reply c.in-Ok.shape c.args.file.now (length c.args.field.now) (length c.args.wind.now) ≡ accepted tt
+passed : (c : In_ok-check) → shape_reply c.read_mark-mark.result c.in-Ok.shape c.args.file.now (length c.args.field.now) (length c.args.wind.now) ≡ accepted tt
 passed c = sym c.in_ok-check.ensures
 
-fits : (c : In_ok-check) → Fitting c.in-Ok.shape c.args.file.now (length c.args.field.now) (length c.args.wind.now)
-fits c = let a = c.args in fitting c.in-Ok.shape a.file.now (length a.field.now) (length a.wind.now) (passed c)
+fits : (c : In_ok-check) → Fitting c.read_mark-mark.result c.in-Ok.shape c.args.file.now (length c.args.field.now) (length c.args.wind.now)
+fits c = let a = c.args in fitting c.read_mark-mark.result c.in-Ok.shape a.file.now (length a.field.now) (length a.wind.now) (passed c)
 
 pub sections-requires : goal.sections-requires
 sections-requires c = (fits (goal.at.sections-requires c).In_ok-check).long
@@ -48,12 +52,14 @@ pub slice_bounds-read_all-end-2 : goal.slice_bounds-read_all-end-2
 slice_bounds-read_all-end-2 c = let h = fits (goal.at.slice_bounds-read_all-end-2 c).In_ok-check in sym (length-take-le c.faces.result c.args.wind.now (omega (arith, h.winds, c.faces.ensures)))
 
 pub read_tracers-requires : goal.read_tracers-requires
-read_tracers-requires c = record { sections_len = c.sections.ensures.tracers_length; shape_in_bounds = (fits (goal.at.read_tracers-requires c).In_ok-check).fields }
+read_tracers-requires c =
+    let h = fits (goal.at.read_tracers-requires c).In_ok-check in
+    record { sections_len = c.sections.ensures.tracers_length; sections_sound = ap (field_sound quadratic c.in-Ok.shape) c.sections.ensures.tracers ∙ h.tracers; shape_in_bounds = h.fields }
 
 pub returns-in_err-check : goal.returns-in_err-check
 returns-in_err-check c =
     let a = c.args in
-    let r = read-refused a.file.now a.field.now a.wind.now c.in-Ok.shape _ (shaped (goal.at.returns-in_err-check c).In-Ok) (sym c.in_err-check.ensures) in
+    let r = read-refused a.file.now a.field.now a.wind.now c.read_mark-mark.result c.read_mark-mark.ensures c.in-Ok.shape _ (shaped (goal.at.returns-in_err-check c).In-Ok) (sym c.in_err-check.ensures) in
     (passed_on c.from_residual.result _ c.from_residual.ensures.1 ∙ r.0, r.1)
 
 pub returns : goal.returns
@@ -63,7 +69,7 @@ returns c =
     let g = c.in-Ok.shape in
     let p = goal.at.returns c in
     let h = fits p.In_ok-check in
-    let r = read_done a.file.now a.field.now a.wind.now g (shaped p.In-Ok) (passed p.In_ok-check) in
+    let r = read_done a.file.now a.field.now a.wind.now c.read_mark-mark.result c.read_mark-mark.ensures g (shaped p.In-Ok) (passed p.In_ok-check) in
     let s = c.sections in (
       r.0,
       (

@@ -1,4 +1,4 @@
--- The map's answer by its tests: the page's length, then what the reading of the total answers; then the page itself.
+-- The map's answer by its tests: the page's length, then what the sum answers; then the page itself.
 use mathlib.Core.Path.{◌≡◌, sym, ap, ◌∙◌}
 use Prim.Native.Nat.{◌≤◌}
 use native.Mathlib.Nat.{zero-add}
@@ -6,12 +6,11 @@ use native.Mathlib.Omega.{arith}
 use lib.ListN.{length}
 use Rattle.rules.proofs.AnswerLaws.{passed_on}
 use Rattle.rules.specs.Answers.{accepted}
-use Rattle.rules.specs.Field.{quadratic}
-use Rattle.rules.specs.Calls.{total_reading}
+use Rattle.field.specs.Leaves.{sum_reading}
 use Rattle.rules.specs.Map.{page_length}
 use Rattle.field_layout.proofs.GridLaws.{refused-2}
 use Rattle.field_layout.proofs.PlaceLaws.{is-admitted}
-use Rattle.field.proofs.CheckLaws.{found}
+use Rattle.field.proofs.CheckLaws.{sum-found}
 use Rattle.map.proofs.CheckLaws.{on_shape, map-bad-shape, map-short, map-refused, map_found, page-kept, page-written}
 use Rattle.map.proofs.map.Goals as goal
 use Rattle.map.proofs.map.Goals.{In_ok-sum, Else-page-page_length}
@@ -40,15 +39,15 @@ returns-in_err-sum c =
     let e = on_shape a.tracer a.field.now a.page.now c.in_ok-grid.ensures.1 (page-kept g a.tracer a.field.now a.page.now _ (map-refused g a.tracer a.field.now a.page.now (room (goal.at.returns-in_err-sum c).Else-page-page_length) _ (sym c.in_err-sum.ensures))) in
     (passed_on r.result _ r.ensures.1 ∙ e.0, e.1)
 
--- what an accepted reading of the total says
-read : (c : In_ok-sum) → let a = c.args in total_reading quadratic c.in_ok-grid.grid.shape a.tracer a.field.now ≡ accepted c.in_ok-sum.sum
+-- what an accepted sum says
+read : (c : In_ok-sum) → let a = c.args in sum_reading c.in_ok-grid.grid.shape a.tracer a.field.now ≡ accepted c.in_ok-sum.sum
 read c = sym c.in_ok-sum.ensures
 
 pub page-end-requires : goal.page-end-requires
 page-end-requires c =
     let a = c.args in
-    let h = found c.in_ok-grid.grid.shape a.tracer a.field.now _ (read (goal.at.page-end-requires c).In_ok-sum) in
-    record { printable = record { tracer = h.tracer; room = h.room; small = omega (arith, h.sum, h.small) }; sum_value = h.sum; shape_in_bounds = room (goal.at.page-end-requires c).Else-page-page_length }
+    let h = sum-found c.in_ok-grid.grid.shape a.tracer a.field.now _ (read (goal.at.page-end-requires c).In_ok-sum) in
+    record { printable = record { tracer = h.tracer; room = h.room; small = omega (arith, h.is, h.small) }; sum_value = h.is; shape_in_bounds = room (goal.at.page-end-requires c).Else-page-page_length }
 
 pub returns : goal.returns
 returns c =

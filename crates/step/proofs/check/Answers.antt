@@ -1,4 +1,4 @@
--- The step's checks: 4 and 5 by their tests, 6 and 7 as the reading of the total meets them.
+-- The step's checks: 4 and 5 by their tests, 6 and 7 as the sum of the tracer meets them.
 use mathlib.Core.Path.{◌≡◌, sym, ap, ◌∙◌}
 use mathlib.Core.Bool.{true}
 use lib.Dec.{T, leb→le, leb}
@@ -42,14 +42,14 @@ returns-then-not-winds_sound c =
 sound-is : (c : Else-not-winds_sound) → wind_sound c.args.grid.shape c.args.wind.now ≡ true
 sound-is c = sym c.winds_sound.ensures ∙ c.if-not-winds_sound.false
 
-pub returns-in_err-total_on : goal.returns-in_err-total_on
+pub returns-in_err-sum_on : goal.returns-in_err-sum_on
 unfolding mapped
-returns-in_err-total_on c =
+returns-in_err-sum_on c =
     let a = c.args in
-    passed_on c.from_residual.result _ c.from_residual.ensures.1 ∙ sym (ap plain (step-refused a.grid.shape a.tracer a.field.now a.wind.now a.report a.work _ (shape_is (goal.at.returns-in_err-total_on c).Start) (enough-is (goal.at.returns-in_err-total_on c).Else-not-lent_enough) (sound-is (goal.at.returns-in_err-total_on c).Else-not-winds_sound) (sym c.in_err-total_on.ensures)))
+    passed_on c.from_residual.result _ c.from_residual.ensures.1 ∙ sym (ap plain (step-refused a.grid.shape a.tracer a.field.now a.wind.now a.report a.work _ (shape_is (goal.at.returns-in_err-sum_on c).Start) (enough-is (goal.at.returns-in_err-sum_on c).Else-not-lent_enough) (sound-is (goal.at.returns-in_err-sum_on c).Else-not-winds_sound) (sym c.in_err-sum_on.ensures)))
 
 pub returns : goal.returns
 unfolding mapped
 returns c =
     let a = c.args in
-    sym (ap plain (step-accepted a.grid.shape a.tracer a.field.now a.wind.now a.report a.work _ (shape_is (goal.at.returns c).Start) (enough-is (goal.at.returns c).Else-not-lent_enough) (sound-is (goal.at.returns c).Else-not-winds_sound) (sym c.in_ok-total_on.ensures)))
+    sym (ap plain (step-accepted a.grid.shape a.tracer a.field.now a.wind.now a.report a.work _ (shape_is (goal.at.returns c).Start) (enough-is (goal.at.returns c).Else-not-lent_enough) (sound-is (goal.at.returns c).Else-not-winds_sound) (sym c.in_ok-sum_on.ensures)))

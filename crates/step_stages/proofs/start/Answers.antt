@@ -1,5 +1,5 @@
 use mathlib.Core.Path.{◌≡◌, refl, sym, ◌∙◌}
-use Prim.Native.Nat.{◌*◌, ◌<◌}
+use Prim.Native.Nat.{◌*◌, ◌≤◌, ◌<◌}
 use native.Mathlib.Nat.{add-sub_cancel_left}
 use native.Mathlib.Omega.{arith}
 use lib.ListN.{length, take}
@@ -12,8 +12,8 @@ use Rattle.step_stages.proofs.Laws.{all-lent, stored-lent}
 use Rattle.step_stages.proofs.start.Goals as goal
 use Rattle.step_stages.proofs.start.Goals.{After-as_chunks}
 
--- the part's numbers are those of the elements
-numbers : (c : After-as_chunks) → length c.args.part.now ≡ c.elements-n.result * 10
+-- the part has the numbers of the elements
+numbers : (c : After-as_chunks) → c.elements-n.result * 10 ≤ length c.args.part.now
 numbers c = omega (arith, c.requires.part_len, elements-are c.args.grid.shape, c.elements-n.ensures)
 
 -- what is lent of them is every element

@@ -2,7 +2,6 @@
 use mathlib.Core.Path.{◌∙◌}
 use Prim.Native.Nat.{◌+◌, ◌-◌}
 use native.Mathlib.Nat.{add-sub_cancel_left}
-use Rattle.field_layout.specs.Places.{element_start}
 use Rattle.field.proofs.InPlaceLaws.{mass-lent}
 use Rattle.field.proofs.readings.element_mass.Goals as goal
 use Rattle.field.proofs.readings.element_mass.Goals.{After-element_start-at}
@@ -10,5 +9,5 @@ use Rattle.field.proofs.readings.element_mass.Goals.{After-element_start-at}
 pub returns : goal.returns
 returns c =
     let a = c.args in
-    let st = element_start a.grid.shape a.tracer a.i a.j in
-    c.mass.ensures ∙ (rw c.element_start-at.ensures.start (mass-lent a.grid.shape a.tracer a.i a.j a.field.now c.requires.inside c.requires.shape_in_bounds (st + 10 - st) (add-sub_cancel_left st 10)))
+    let at = c.element_start-at.result in
+    c.mass.ensures ∙ mass-lent a.grid.shape a.tracer a.i a.j a.field.now c.requires.inside c.requires.shape_in_bounds at c.element_start-at.ensures.start (at + 10 - at) (add-sub_cancel_left at 10)

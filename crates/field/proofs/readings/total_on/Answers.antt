@@ -1,54 +1,41 @@
--- The reading of a total: the tests make the definition's first checks, and the search of the lent part makes check 6 and the number.
+-- The reading of a total: 4 and 7, and then the stored total, of which 6 asks whether it is within the limit.
 use mathlib.Core.Path.{◌≡◌, sym, ap, ◌∙◌}
-use mathlib.Core.Bool.{true}
-use Prim.Native.Nat.{◌≤◌, ◌+◌, ◌-◌}
 use native.Mathlib.Omega.{arith}
-use native.Mathlib.Nat.{add-sub_cancel_left}
-use lib.ListN.{length, take, drop}
-use Rattle.rules.specs.Field.{quadratic, admitted, field_length, part}
-use Rattle.field_search.specs.Search.{searched}
-use Rattle.field_layout.proofs.PlaceLaws.{is-admitted, field_is, field-le, tracer-room}
-use Rattle.field.proofs.CheckLaws.{total-short, total-no-tracer, total-searched}
+use Rattle.rules.specs.Answers.{accepted}
+use Rattle.rules.specs.Field.{quadratic, part, stored_total}
+use Rattle.rules.proofs.AnswerLaws.{passed_on}
+use Rattle.field_layout.proofs.PlaceLaws.{is-admitted, field_is, field-le}
+use Rattle.field.proofs.CheckLaws.{there, total-refused, total-above, total-passes}
+use Rattle.field.proofs.InPlaceLaws.{stored_at}
 use Rattle.field.proofs.readings.total_on.Goals as goal
-use Rattle.field.proofs.readings.total_on.Goals.{After-part_length, Else-field-field_length, Start}
+use Rattle.field.proofs.readings.total_on.Goals.{After-from-total}
 
--- the shape passes its test
-shape_is : (c : Start) → admitted c.args.grid.shape ≡ true
-shape_is c = is-admitted c.args.grid.shape c.args.grid.admitted
+-- what is read is the stored total
+read : (c : After-from-total) → c.from-total.result ≡ stored_total quadratic (c.args.grid.shape) (part quadratic c.args.grid.shape c.args.tracer c.args.field.now)
+read c = let a = c.args in c.from-total.ensures ∙ stored_at a.grid.shape a.tracer a.field.now c.total_at.result c.total_at.ensures.place
 
-pub returns-then-field-field_length : goal.returns-then-field-field_length
-returns-then-field-field_length c = let a = c.args in sym (total-short a.grid.shape a.tracer a.field.now (shape_is (goal.at.returns-then-field-field_length c).Start) (rw c.field_length.ensures at c.if-field-field_length.true))
-
-room : (c : Else-field-field_length) → field_length quadratic c.args.grid.shape ≤ length c.args.field.now
-room c = rw c.field_length.ensures at c.if-field-field_length.false
-
-pub returns-then-grid-tracer : goal.returns-then-grid-tracer
-returns-then-grid-tracer c = let a = c.args in sym (total-no-tracer a.grid.shape a.tracer a.field.now (shape_is (goal.at.returns-then-grid-tracer c).Start) (room (goal.at.returns-then-grid-tracer c).Else-field-field_length) c.if-grid-tracer.true)
-
--- the tracer's part ends within the field
-ends : (c : After-part_length) → (c.tracer_start-start.result + c.part_length.result ≤ length c.args.field.now) × (c.tracer_start-start.result + c.part_length.result ≤ 327680)
-ends c =
+pub returns-in_err-there : goal.returns-in_err-there
+returns-in_err-there c =
     let a = c.args in
-    let g = a.grid.shape in
-    let r = tracer-room g a.tracer c.if-grid-tracer.false in
-    (omega (arith, r, c.field_length.ensures, c.if-field-field_length.false, c.tracer_start-start.ensures, c.part_length.ensures), omega (arith, r, field_is g, field-le g a.grid.admitted, c.tracer_start-start.ensures, c.part_length.ensures))
+    let r = c.from_residual in
+    passed_on r.result _ r.ensures.1 ∙ sym (total-refused a.grid.shape a.tracer a.field.now _ (is-admitted a.grid.shape a.grid.admitted) (sym c.in_err-there.ensures))
 
--- what is lent is the tracer's part
-lent_is : (c : After-part_length) → take (c.tracer_start-start.result + c.part_length.result - c.tracer_start-start.result) (drop c.tracer_start-start.result c.args.field.now) ≡ part quadratic c.args.grid.shape c.args.tracer c.args.field.now
-unfolding part
-lent_is c = rw (add-sub_cancel_left c.tracer_start-start.result c.part_length.result, c.tracer_start-start.ensures, c.part_length.ensures)
+pub total_at-requires : goal.total_at-requires
+total_at-requires c = let a = c.args in (there a.grid.shape a.tracer a.field.now (sym c.in_ok-there.ensures)).tracer
 
-pub overflow_add-end : goal.overflow_add-end
-overflow_add-end c = record { fits = omega (arith, ends (goal.at.overflow_add-end c).After-part_length) }
+pub offset_bounds-field-total_at : goal.offset_bounds-field-total_at
+offset_bounds-field-total_at c = let g = c.args.grid in record { fits = omega (arith, c.total_at.ensures.room, field_is g.shape, field-le g.shape g.admitted) }
 
-pub offset_bounds-field-start : goal.offset_bounds-field-start
-offset_bounds-field-start c = omega (arith, ends (goal.at.offset_bounds-field-start c).After-part_length)
+pub bounds-field-total_at : goal.bounds-field-total_at
+bounds-field-total_at c = let a = c.args in omega (arith, c.total_at.ensures.room, (there a.grid.shape a.tracer a.field.now (sym c.in_ok-there.ensures)).room)
 
-pub slice_bounds-tracer_total-end : goal.slice_bounds-tracer_total-end
-slice_bounds-tracer_total-end c = omega (arith, ends (goal.at.slice_bounds-tracer_total-end c).After-part_length)
+pub returns-then-total-gt-LIMIT : goal.returns-then-total-gt-LIMIT
+returns-then-total-gt-LIMIT c =
+    let a = c.args in
+    sym (total-above a.grid.shape a.tracer a.field.now (is-admitted a.grid.shape a.grid.admitted) (sym c.in_ok-there.ensures) (omega (arith, c.if-total-gt-LIMIT.true, read (goal.at.returns-then-total-gt-LIMIT c).After-from-total)))
 
 pub returns : goal.returns
 returns c =
     let a = c.args in
-    c.tracer_total.ensures ∙ ap (searched a.grid.shape) (lent_is (goal.at.returns c).After-part_length)
-    ∙ sym (total-searched a.grid.shape a.tracer a.field.now (shape_is (goal.at.returns c).Start) (room (goal.at.returns c).Else-field-field_length) c.if-grid-tracer.false)
+    let e = read (goal.at.returns c).After-from-total in
+    ap accepted e ∙ sym (total-passes a.grid.shape a.tracer a.field.now (is-admitted a.grid.shape a.grid.admitted) (sym c.in_ok-there.ensures) (omega (arith, c.if-total-gt-LIMIT.false, e)))

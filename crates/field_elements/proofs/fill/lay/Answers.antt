@@ -15,6 +15,6 @@ pub loop-e-preserved : goal.loop-e-preserved
 loop-e-preserved c =
     let l = c.loop-e in
     let n = c.args.numbers.now in
-    let k = lent-chunk n _ c.args.n l.e c.as_chunks.ensures.front c.as_chunks.ensures.front_len c.requires.n_in_bounds c.loop-e-test.true in
+    let k = lent-chunk 9 n _ c.args.n c.as_chunks.ensures.front c.as_chunks.ensures.front_len c.requires.n_in_bounds (omega arith) l.e c.loop-e-test.true in
     let x : c.lay_element.new.part ≡ loaded_element quadratic n l.e = c.lay_element.ensures ∙ ap (λ y. loaded_element quadratic y 0) k.1 ∙ loaded-part n l.e 9 refl in
     blocks-next (loaded-length n) l.invariant k.0 refl (add-sub_cancel_left (l.e * 10) 10) x

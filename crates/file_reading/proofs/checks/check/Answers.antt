@@ -15,57 +15,57 @@ use Rattle.file_reading.proofs.checks.check.Goals.{After-tracers_sound, After-wi
 pub returns-then-not-offsets_right : goal.returns-then-not-offsets_right
 returns-then-not-offsets_right c =
     let a = c.args in
-    check-3 a.grid.shape a.file.now a.field a.wind (sym c.offsets_right.ensures ∙ c.if-not-offsets_right.true)
+    check-3 a.layout.mark a.layout.grid.shape a.file.now a.field a.wind (sym c.offsets_right.ensures ∙ c.if-not-offsets_right.true)
 
 -- what each passed test says
-right : (c : Else-not-offsets_right) → offsets_right quadratic c.args.grid.shape c.args.file.now ≡ true
+right : (c : Else-not-offsets_right) → offsets_right quadratic c.args.layout.mark c.args.layout.grid.shape c.args.file.now ≡ true
 right c = sym c.offsets_right.ensures ∙ c.if-not-offsets_right.false
 
-long : (c : Else-not-offsets_right) → length c.args.file.now ≡ file_length quadratic c.args.grid.shape
-long c = let a = c.args in right-length a.grid.shape a.file.now a.field a.wind (rw (right c) tt)
+long : (c : Else-not-offsets_right) → length c.args.file.now ≡ file_length quadratic c.args.layout.mark c.args.layout.grid.shape
+long c = let a = c.args in right-length a.layout.mark a.layout.grid.shape a.file.now a.field a.wind (rw (right c) tt)
 
 pub returns-then-field-field_length : goal.returns-then-field-field_length
 returns-then-field-field_length c =
     let a = c.args in
-    check-4-field a.grid.shape a.file.now a.field a.wind (right (goal.at.returns-then-field-field_length c).Else-not-offsets_right) (omega (arith, c.field_length.ensures, c.if-field-field_length.true))
+    check-4-field a.layout.mark a.layout.grid.shape a.file.now a.field a.wind (right (goal.at.returns-then-field-field_length c).Else-not-offsets_right) (omega (arith, c.field_length.ensures, c.if-field-field_length.true))
 
-fields : (c : Else-field-field_length) → field_length quadratic c.args.grid.shape ≤ c.args.field
+fields : (c : Else-field-field_length) → field_length quadratic c.args.layout.grid.shape ≤ c.args.field
 fields c = omega (arith, c.field_length.ensures, c.if-field-field_length.false)
 
 pub returns-then-wind-faces : goal.returns-then-wind-faces
 returns-then-wind-faces c =
     let a = c.args in
-    check-4-wind a.grid.shape a.file.now a.field a.wind (right (goal.at.returns-then-wind-faces c).Else-not-offsets_right) (fields (goal.at.returns-then-wind-faces c).Else-field-field_length) (omega (arith, c.faces.ensures, c.if-wind-faces.true))
+    check-4-wind a.layout.mark a.layout.grid.shape a.file.now a.field a.wind (right (goal.at.returns-then-wind-faces c).Else-not-offsets_right) (fields (goal.at.returns-then-wind-faces c).Else-field-field_length) (omega (arith, c.faces.ensures, c.if-wind-faces.true))
 
-winds : (c : Else-wind-faces) → faces c.args.grid.shape ≤ c.args.wind
+winds : (c : Else-wind-faces) → faces c.args.layout.grid.shape ≤ c.args.wind
 winds c = omega (arith, c.faces.ensures, c.if-wind-faces.false)
 
 pub sections-requires : goal.sections-requires
 sections-requires c = long (goal.at.sections-requires c).Else-not-offsets_right
 
 -- the tests of the sections are of the wind and the field that the file holds
-winds-tests : (c : After-winds_sound) → c.winds_sound.result ≡ wind_sound c.args.grid.shape (file_wind c.args.grid.shape c.args.file.now)
+winds-tests : (c : After-winds_sound) → c.winds_sound.result ≡ wind_sound c.args.layout.grid.shape (file_wind c.args.layout.grid.shape c.args.file.now)
 winds-tests c =
-    let g = c.args.grid.shape in
+    let g = c.args.layout.grid.shape in
     c.winds_sound.ensures ∙ winds-tested g _ c.sections.ensures.winds_length ∙ ap (wind_sound g) c.sections.ensures.winds
 
-tracers-tests : (c : After-tracers_sound) → c.tracers_sound.result ≡ field_sound quadratic c.args.grid.shape (file_field quadratic c.args.grid.shape c.args.file.now)
-tracers-tests c = c.tracers_sound.ensures ∙ ap (field_sound quadratic c.args.grid.shape) c.sections.ensures.tracers
+tracers-tests : (c : After-tracers_sound) → c.tracers_sound.result ≡ field_sound quadratic c.args.layout.grid.shape (file_field quadratic c.args.layout.mark c.args.layout.grid.shape c.args.file.now)
+tracers-tests c = c.tracers_sound.ensures ∙ ap (field_sound quadratic c.args.layout.grid.shape) c.sections.ensures.tracers
 
 pub returns-then-not-winds_sound : goal.returns-then-not-winds_sound
 returns-then-not-winds_sound c =
     let a = c.args in
     let p = goal.at.returns-then-not-winds_sound c in
-    check-5 a.grid.shape a.file.now a.field a.wind (right p.Else-not-offsets_right) (fields p.Else-field-field_length) (winds p.Else-wind-faces) (sym (winds-tests p.After-winds_sound) ∙ c.if-not-winds_sound.true)
+    check-5 a.layout.mark a.layout.grid.shape a.file.now a.field a.wind (right p.Else-not-offsets_right) (fields p.Else-field-field_length) (winds p.Else-wind-faces) (sym (winds-tests p.After-winds_sound) ∙ c.if-not-winds_sound.true)
 
 pub returns-then-not-tracers_sound : goal.returns-then-not-tracers_sound
 returns-then-not-tracers_sound c =
     let a = c.args in
     let p = goal.at.returns-then-not-tracers_sound c in
-    check-6 a.grid.shape a.file.now a.field a.wind (right p.Else-not-offsets_right) (fields p.Else-field-field_length) (winds p.Else-wind-faces) (sym (winds-tests p.After-winds_sound) ∙ c.if-not-winds_sound.false) (sym (tracers-tests p.After-tracers_sound) ∙ c.if-not-tracers_sound.true)
+    check-6 a.layout.mark a.layout.grid.shape a.file.now a.field a.wind (right p.Else-not-offsets_right) (fields p.Else-field-field_length) (winds p.Else-wind-faces) (sym (winds-tests p.After-winds_sound) ∙ c.if-not-winds_sound.false) (sym (tracers-tests p.After-tracers_sound) ∙ c.if-not-tracers_sound.true)
 
 pub returns : goal.returns
 returns c =
     let a = c.args in
     let p = goal.at.returns c in
-    check_done a.grid.shape a.file.now a.field a.wind (right p.Else-not-offsets_right) (fields p.Else-field-field_length) (winds p.Else-wind-faces) (sym (winds-tests p.After-winds_sound) ∙ c.if-not-winds_sound.false) (sym (tracers-tests p.After-tracers_sound) ∙ c.if-not-tracers_sound.false)
+    check_done a.layout.mark a.layout.grid.shape a.file.now a.field a.wind (right p.Else-not-offsets_right) (fields p.Else-field-field_length) (winds p.Else-wind-faces) (sym (winds-tests p.After-winds_sound) ∙ c.if-not-winds_sound.false) (sym (tracers-tests p.After-tracers_sound) ∙ c.if-not-tracers_sound.false)

@@ -1,22 +1,20 @@
-use Rattle.std.proofs.Common.{◌≡◌, ◌∙◌, ap, ◌*◌, ◌/◌, length, arith}
-use Rattle.whole.proofs.TableLaws.{length-table}
-use Rattle.rules.specs.Bytes.{number32}
-use Rattle.rules.specs.Field.{quadratic, part_length, sound}
-use Rattle.field_search.proofs.SearchLaws.{is-sound}
-use Rattle.file_sections.specs.Numbers.{numbers_of}
+use Rattle.std.proofs.Common.{◌∙◌, ap, length, ◌/◌, is_ok, arith}
+use Rattle.file_sections.proofs.SectionLaws.{length-numbers}
+use Rattle.file_sections.proofs.PartLaws.{plum-many, plu2-many, plum-tested, plu2-tested}
 use Rattle.file_sections.proofs.search.tracer_sound.Goals as goal
-use Rattle.file_sections.proofs.search.tracer_sound.Goals.{Start}
+use Rattle.file_sections.proofs.search.tracer_sound.Goals.{in-Plum, in-Plu2}
 
--- as many numbers as the section has
-many : (c : Start) → length c.args.section.now / 4 ≡ part_length quadratic c.args.grid.shape
-many c = omega (arith, c.requires)
+pub search-sum-requires : goal.search-sum-requires
+search-sum-requires c = let l = c.args.section.now in omega (arith, length-numbers l (length l / 4), plum-many c.args.layout.mark c.args.layout.grid.shape l c.requires c.in-Plum.is)
 
-pub search-requires : goal.search-requires
-unfolding numbers_of
-search-requires c = let l = c.args.section.now in length-table (length l / 4) (λ i. number32 l (4 * i)) ∙ many (goal.at.search-requires c).Start
+pub compared_sum-sum-requires : goal.compared_sum-sum-requires
+compared_sum-sum-requires c = let l = c.args.section.now in length-numbers l (length l / 4) ∙ plu2-many c.args.layout.mark c.args.layout.grid.shape l c.requires c.in-Plu2.is
 
 pub returns : goal.returns
 returns c =
-    let g = c.args.grid.shape in
+    let a = c.args.layout in
     let l = c.args.section.now in
-    c.is_ok.ensures.value ∙ is-sound g (numbers_of l (length l / 4)) c.search.result c.search.ensures ∙ ap (λ n. sound quadratic g (numbers_of l n)) (many (goal.at.returns c).Start)
+    c.is_ok.ensures.value ∙ elim c.match-layout.branch [
+      | in-Plum w ↦ ap is_ok w.sum-is ∙ plum-tested a.mark a.grid.shape l c.requires w.search-sum.result w.in-Plum.is w.search-sum.ensures
+      | in-Plu2 w ↦ ap is_ok w.sum-is ∙ plu2-tested a.mark a.grid.shape l c.requires w.compared_sum-sum.result w.in-Plu2.is w.compared_sum-sum.ensures
+    ]

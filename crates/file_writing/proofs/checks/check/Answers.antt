@@ -2,9 +2,11 @@
 use mathlib.Core.Path.{◌≡◌, sym, ap, ◌∙◌}
 use mathlib.Core.Bool.{true}
 use Rattle.rules.specs.Answers.{accepted}
-use Rattle.rules.specs.Field.{admitted}
+use Rattle.rules.specs.Field.{quadratic, admitted}
+use Rattle.rules.specs.FieldFile.{file_length}
 use Rattle.rules.specs.Calls.{wind_sound}
 use Rattle.field_layout.proofs.PlaceLaws.{is-admitted}
+use Rattle.file_writing.proofs.WritingLaws.{of-layout}
 use Rattle.file_writing.proofs.WriteChecks.{enough, write-4, write-5, write-6, write-passed}
 use Rattle.file_writing.proofs.checks.check.Goals as goal
 use Rattle.file_writing.proofs.checks.check.Goals.{Else-not-lent_enough, Else-not-winds_sound, Start}
@@ -37,5 +39,5 @@ returns-then-not-tracers_sound c =
 pub returns : goal.returns
 returns c =
     let a = c.args in
-    ap accepted c.file_length.ensures
+    ap accepted (of-layout (file_length quadratic) c.file_length.ensures c.layout.ensures.same_grid c.layout.ensures.mark)
     ∙ sym (write-passed a.grid.shape a.field.now a.wind.now a.file.now (shape_is (goal.at.returns c).Start) (enough-is (goal.at.returns c).Else-not-lent_enough) (winds-are (goal.at.returns c).Else-not-winds_sound) (sym c.tracers_sound.ensures ∙ c.if-not-tracers_sound.false))

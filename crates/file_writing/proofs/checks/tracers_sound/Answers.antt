@@ -4,14 +4,14 @@ use Rattle.rules.specs.Field.{quadratic, sound, part}
 use Rattle.rules.specs.FieldFile.{field_sound}
 use Rattle.field_search.proofs.RunLaws.{chunks-all}
 use Rattle.field_search.proofs.SearchLaws.{is-sound}
-use Rattle.file_layout.proofs.LayoutLaws.{part_above}
+use Rattle.field_layout.proofs.PlaceLaws.{part-is}
 use Rattle.file_writing.proofs.WritingLaws.{parts-many, part-tested}
 use Rattle.file_writing.proofs.checks.tracers_sound.Goals as goal
 use Rattle.file_writing.proofs.checks.tracers_sound.Goals.{After-part_length}
 
 -- a part has numbers
 above : (c : After-part_length) → 0 < c.part_length.result
-above c = omega (arith, c.part_length.ensures, part_above c.args.grid.shape c.args.grid.admitted)
+above c = omega (arith, c.part_length.ensures, part-is c.args.grid.shape)
 
 pub chunks_exact-requires : goal.chunks_exact-requires
 chunks_exact-requires c = above (goal.at.chunks_exact-requires c).After-part_length

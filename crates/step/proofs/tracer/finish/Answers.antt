@@ -1,19 +1,21 @@
-use Rattle.std.proofs.Common.{◌≡◌, ◌∙◌, ap, refl, ◌*◌, ◌<◌, arith}
+use Rattle.std.proofs.Common.{◌≡◌, ◌∙◌, ap, sym, refl, ◌+◌, ◌*◌, ◌<◌, arith}
 use native.Mathlib.Nat.{add-sub_cancel_left}
 use lib.ListN.{length}
 use Rattle.whole.specs.Sum.{sum}
-use Rattle.rules.specs.Field.{elements}
-use Rattle.field_layout.proofs.PlaceLaws.{elements-are}
-use Rattle.whole.proofs.FillLaws.{blocks-none, blocks-next, blocks-whole}
+use Rattle.rules.specs.Field.{quadratic, elements}
+use Rattle.rules.proofs.StoredLaws.{elements-written}
+use Rattle.field_layout.proofs.PlaceLaws.{elements-are, part-is}
+use Rattle.whole.proofs.FillLaws.{blocks-none, blocks-next, blocks-all}
 use Rattle.whole.proofs.SumLaws.{sum_more}
+use Rattle.whole.proofs.TableLaws.{length-blocks}
 use Rattle.step.specs.Finish.{closed_lent}
 use Rattle.step.proofs.Laws.{new-length, closing-lent}
 use Rattle.step.proofs.tracer.finish.Goals as goal
 use Rattle.step.proofs.tracer.finish.Goals.{In-loop-index, After-loop-index, Start}
 
--- the part has ten numbers an element
-ten : (c : Start) → length c.args.part.now ≡ elements c.args.grid.shape * 10
-ten c = c.requires.part_len ∙ elements-are c.args.grid.shape
+-- the part has ten numbers an element, and one more
+ten : (c : Start) → length c.args.part.now ≡ elements c.args.grid.shape * 10 + 1
+ten c = c.requires.part_len ∙ part-is c.args.grid.shape
 
 inside : (c : In-loop-index) → c.loop-index.index < elements c.args.grid.shape
 inside c = omega (arith, c.elements-n.ensures)
@@ -41,7 +43,12 @@ ended : (c : After-loop-index) → c.loop-index.index ≡ elements c.args.grid.s
 ended c = omega (arith, c.elements-n.ensures, c.loop-index-test.false, c.loop-index.invariant.0.within)
 
 pub returns-clause-numbers : goal.returns-clause-numbers
-returns-clause-numbers c = blocks-whole c.loop-index.invariant.0 (omega (arith, ended (goal.at.returns-clause-numbers c).After-loop-index)) (ten (goal.at.returns-clause-numbers c).Start)
+returns-clause-numbers c =
+    let a = c.args in
+    let g = a.grid.shape in
+    let each = new-length g a.psi.now a.rises.now a.masses.now a.report.now in
+    blocks-all c.loop-index.invariant.0 (omega (arith, ended (goal.at.returns-clause-numbers c).After-loop-index)) each
+    ∙ elements-written quadratic g _ a.part.now (length-blocks 10 _ each (elements g) ∙ sym (elements-are g)) c.requires.part_len
 
 pub returns-clause-clipped : goal.returns-clause-clipped
 returns-clause-clipped c =

@@ -1,4 +1,4 @@
--- The loop fills the part with closed elements and keeps the sum of their clipped masses, each of which is bounded: so the sum fits.
+-- The loop fills the front of the part with closed elements and keeps the sum of their clipped masses, each of which is bounded: so the sum fits.
 use mathlib.Core.Path.{◌≡◌}
 use Prim.Native.Nat.{◌*◌, ◌≤◌}
 use Rattle.whole.specs.Sum.{sum}

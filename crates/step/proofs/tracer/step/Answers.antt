@@ -6,13 +6,13 @@ use Rattle.whole.specs.Bound.{AllWithin}
 use Rattle.rules.specs.Field.{limit}
 use Rattle.rules.specs.Sizes.{stage_1_size, stage_size, combined_size, earlier_sum_size}
 use Rattle.rules.specs.Step.{finish, tracer_step}
-use Rattle.field_layout.proofs.PlaceLaws.{elements-are}
+use Rattle.field_layout.proofs.PlaceLaws.{part-is, part-is-more}
 use Rattle.step.proofs.TracerLaws.{Given, mass-small, phi, sums, phi-small, phi0-small, phi1-small, earlier-small, stored, passed-1, passed-2, advanced, together-small, put_together, fluxed, flux_list, fluxes-lent, together, masses, outflows, weighed, drained, limited, reported, limited-lent, rise_list, raised, values-of, amounts-of, balance-of, all_closed, all_clipped}
 use Rattle.step.proofs.tracer.step.Goals as goal
 use Rattle.step.proofs.tracer.step.Goals.{After-split_at_mut-outflows, After-start, After-fill, After-advance, After-advance-2, After-advance-3, After-combine, After-fluxes, After-masses, After-outflows, After-limit, After-rises, Start}
 
 given : (c : Start) → Given c.args.winds.grid.shape c.args.winds.wind.now c.args.part.now
-given c = let h = c.requires in record { admits = c.args.winds.grid.admitted; winds = c.args.winds.in_range; numbers = h.part_len; within-limit = h.part_bound }
+given c = let h = c.requires in record { admits = c.args.winds.grid.admitted; winds = c.args.winds.in_range; numbers = h.part_len; within-limit = h.part_bound; stored-within = h.stored_bound }
 
 -- ---- the stages
 at-1 : (c : After-advance) (h : Given c.args.winds.grid.shape c.args.winds.wind.now c.args.part.now) → (c.start.new.stage ≡ phi h 0) × ((c.advance.new.next ≡ phi h 1) × (c.advance.new.sums ≡ sums h 1))
@@ -53,6 +53,9 @@ raised-at : (c : After-rises) (h : Given c.args.winds.grid.shape c.args.winds.wi
 raised-at c h = let x = goal.at-After-rises c in raised h (fluxed-at x.After-fluxes h) (reported-at x.After-limit h) c.rises.ensures
 
 -- ---- the passes from stage to stage
+pub start-requires-clause-part_len : goal.start-requires-clause-part_len
+start-requires-clause-part_len c = omega (arith, c.requires.part_len, part-is-more c.args.winds.grid.shape)
+
 pub advance-requires-clause-all_within_2 : goal.advance-requires-clause-all_within_2
 advance-requires-clause-all_within_2 c =
     let h = given (goal.at.advance-requires-clause-all_within_2 c).Start in
@@ -116,7 +119,7 @@ invariant_of-fluxes-clause-small c =
     subst (AllWithin combined_size) (sym (combined-at x.After-combine h)) (together-small h)
 
 pub masses-requires-clause-part_len : goal.masses-requires-clause-part_len
-masses-requires-clause-part_len c = omega (arith, c.requires.part_len, elements-are c.args.winds.grid.shape, c.split_at_mut-masses.ensures.front_len, c.elements-n.ensures)
+masses-requires-clause-part_len c = omega (arith, c.requires.part_len, part-is c.args.winds.grid.shape, c.split_at_mut-masses.ensures.front_len, c.elements-n.ensures)
 
 pub masses-requires-clause-within_limit : goal.masses-requires-clause-within_limit
 masses-requires-clause-within_limit c =

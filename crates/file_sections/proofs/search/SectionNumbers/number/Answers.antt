@@ -1,15 +1,11 @@
-use Rattle.std.proofs.Common.{◌∙◌, ◌*◌, ◌/◌, ◌<◌, length, arith}
-use Rattle.whole.proofs.TableLaws.{length-table}
-use Rattle.rules.specs.Bytes.{number32}
-use Rattle.file_sections.specs.Numbers.{numbers_of}
-use Rattle.file_sections.proofs.SectionLaws.{number_at}
+use Rattle.std.proofs.Common.{◌∙◌, ◌/◌, ◌<◌, length, arith}
+use Rattle.file_sections.proofs.SectionLaws.{length-numbers, number_at}
 use Rattle.file_sections.proofs.search.SectionNumbers.number.Goals as goal
 use Rattle.file_sections.proofs.search.SectionNumbers.number.Goals.{Start}
 
 -- the number is one of the section's
 inside : (c : Start) → c.args.k < length c.args.self.now.bytes.now / 4
-unfolding numbers_of
-inside c = let l = c.args.self.now.bytes.now in omega (arith, length-table (length l / 4) (λ i. number32 l (4 * i)), c.requires)
+inside c = let l = c.args.self.now.bytes.now in omega (arith, length-numbers l (length l / 4), c.requires)
 
 pub number-requires : goal.number-requires
 number-requires c = omega (arith, inside (goal.at.number-requires c).Start)
