@@ -29,7 +29,7 @@ pub fn mass(field: &[u32], shape: Shape, tracer: usize, i: usize, j: usize) -> R
     Ok(mass_and_total(field, grid, tracer, i, j)?.mass)
 }
 
-// The tracer is there, and the field has room: 4 and 7. One that is not there has no numbers, so that 6 does not meet it.
+// Whether the field has room and the tracer is there: 4 and 7. One that is not there has no numbers, so that 6 does not meet it.
 fn there(field: &[u32], grid: Grid, tracer: usize) -> Result<(), Refusal>
     ensures { answered result ≡ there_reply grid.shape tracer (length field.now) }
 {

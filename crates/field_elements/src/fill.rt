@@ -1,5 +1,5 @@
-// What many elements hold, and a load's elements that are filled. Leaves: the buffers are long enough. One n says of a part and of the numbers to load how many
-// elements are meant; without it a clause would compare their two lengths.
+// What many elements hold together, and the elements that a load fills. Leaves: the buffers are long enough. One n says of a part and of the numbers to
+// load how many elements are meant; without it a clause would compare their two lengths.
 ghost use Rattle.std.specs.Prelude.{◌≡◌, ◌*◌, ◌≤◌, ◌<◌, length};
 ghost use Rattle.whole.specs.Sum.{sum};
 ghost use Rattle.whole.specs.Table.{blocks};

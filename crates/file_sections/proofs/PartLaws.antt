@@ -22,7 +22,7 @@ use Rattle.rules.specs.FieldFile.{section_length, part_from}
 use Rattle.rules.proofs.FieldLaws.{elements-small}
 use Rattle.rules.proofs.StoredLaws.{length-part_of, total-part_of, sound-worked-out}
 use Rattle.field_layout.proofs.PlaceLaws.{elements-are, part-is-more}
-use Rattle.file_layout.proofs.LayoutLaws.{plum-length, plu2-length}
+use Rattle.file_layout.proofs.LayoutLaws.{plum-length, plu2-length, length-part_from}
 use Rattle.field_search.specs.Search.{searched, compared}
 use Rattle.field_search.proofs.SearchLaws.{is-elements-sound, is-sound}
 use Rattle.file_sections.specs.Numbers.{numbers_of, part_of_section}
@@ -47,8 +47,8 @@ module _ (g : Shape) (section : List ℕ) where
   plu2-part = refl
 
   pub length-part-of-section : (m : Mark) → length (part_of_section m g section) ≡ part_length quadratic g
-  length-part-of-section Plum = ap length plum-part ∙ length-part_of quadratic g elements_of (total quadratic g elements_of) (length-numbers section (elements_length quadratic g))
-  length-part-of-section Plu2 = ap length plu2-part ∙ length-numbers section (part_length quadratic g)
+  unfolding part_of_section
+  length-part-of-section m = length-part_from quadratic g (numbers_of section (section_length quadratic m g)) m (length-numbers section (section_length quadratic m g))
 
   plum-sound : sound quadratic g (part_of_section Plum g section) ≡ sum_sound quadratic g elements_of
   plum-sound = ap (sound quadratic g) plum-part ∙ sound-worked-out quadratic g elements_of (length-numbers section (elements_length quadratic g))

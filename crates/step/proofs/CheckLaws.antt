@@ -9,16 +9,16 @@ use lib.IntN.{ℤ, nat_abs}
 use lib.ListN.{length, take, drop}
 use lib.Seq.{drop_at}
 use Rattle.whole.specs.Table.{overwrite}
-use Rattle.whole.proofs.Cases.{both_yes}
+use Rattle.whole.proofs.Cases.{both_yes, true_of}
 use Rattle.whole.proofs.OverwriteLaws.{front-is}
 use Rattle.whole.proofs.SumLaws.{all-at}
 use Rattle.rules.specs.declared.Shape.{Shape}
 use Rattle.rules.specs.Answers.{Answer, accepted, refused, Check, check, answer, mapped, plain}
-use Rattle.rules.specs.Field.{quadratic, admitted, faces, work_needed, field_length, part_length, part, with_part, stored_total, total, limit, sound, if_there, Admitted, wind_in_range}
+use Rattle.rules.specs.Field.{quadratic, admitted, faces, work_needed, field_length, part_length, part, with_part, total, sound, if_there, Admitted, wind_in_range}
 use Rattle.rules.specs.Step.{tracer_step}
 use Rattle.rules.specs.Calls.{Operation, step, Lent, lengths_lent, wind_at, wind_sound, lent_enough, checks, done, call, clipped_mass, report_after, WorkAfter, Reply}
 use Rattle.rules.proofs.AnswerLaws.{Passed, answer-ind, prefix-refused, prefix-accepted}
-use Rattle.rules.proofs.FieldLaws.{tested, summed}
+use Rattle.rules.proofs.FieldLaws.{tested}
 use Rattle.rules.proofs.ShapeLaws.{ranges}
 use Rattle.field.specs.Leaves.{sum_reading}
 use Rattle.field.proofs.CheckLaws.{call-refused}
@@ -82,8 +82,7 @@ module _ (g : Shape) (s : ℕ) (f : List ℕ) (wind : List ℤ) (rl wl : ℕ) wh
     pub wind-range : WindsInRange g wind
     pub reports : faces g ≤ rl
     pub works : work_needed g ≤ wl
-    pub within-limit : total quadratic g p ≤ limit
-    pub stored-within : stored_total quadratic g p ≤ limit
+    pub part-sound : sound quadratic g p ≡ true
     pub answers : (call quadratic g s op f).reply ≡ accepted r
 
   winds-ranged : faces g ≤ length wind → T (wind_sound g wind) → WindsInRange g wind
@@ -103,7 +102,6 @@ module _ (g : Shape) (s : ℕ) (f : List ℕ) (wind : List ℤ) (rl wl : ℕ) wh
       let b = both_yes (leb (field_length quadratic g) (length f)) _ c.1.0 in
       let w = both_yes (leb (faces g) (length wind)) _ b.1 in
       let q = both_yes (leb (faces g) rl) (leb (work_needed g) wl) w.1 in
-      let t = summed quadratic g p (tested (ltb s g.tracers) (sound quadratic g p) c.1.1.1.1.0 c.1.1.1.0) in
       record {
         shape = shape;
         room = leb→le _ _ b.0;
@@ -111,8 +109,7 @@ module _ (g : Shape) (s : ℕ) (f : List ℕ) (wind : List ℤ) (rl wl : ℕ) wh
         wind-range = winds-ranged (leb→le _ _ w.0) c.1.1.0;
         reports = leb→le _ _ q.0;
         works = leb→le _ _ q.1;
-        within-limit = t.0;
-        stored-within = omega (arith, t.0, t.1);
+        part-sound = true_of (sound quadratic g p) (tested (ltb s g.tracers) (sound quadratic g p) c.1.1.1.1.0 c.1.1.1.0);
         answers = e;
       }
 

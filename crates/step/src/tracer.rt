@@ -1,10 +1,9 @@
-// The step of one tracer, on its part of the field. Leaves: what is lent has its length, winds and the tracer's total, summed and stored, are in their
-// ranges.
-ghost use Rattle.std.specs.Prelude.{◌≡◌, ◌≤◌, length};
+// The step of one tracer, on its part of the field. Leaves: what is lent has its length, winds are in their range, and the part is sound.
+ghost use Rattle.std.specs.Prelude.{◌≡◌, ◌≤◌, true, length};
 ghost use Rattle.whole.specs.Parts.{positive};
 ghost use Rattle.whole.specs.Sum.{sum};
 ghost use Rattle.whole.specs.Table.{blocks, at};
-ghost use Rattle.rules.specs.Field.{quadratic, elements, part_length, stored_total, part_of, faces, work_needed, total, limit};
+ghost use Rattle.rules.specs.Field.{quadratic, elements, part_length, stored_total, part_of, faces, work_needed, sound};
 ghost use Rattle.rules.specs.Correction.{target};
 ghost use Rattle.rules.specs.Step.{tracer_step};
 ghost use Rattle.rules.specs.Calls.{wind_at};
@@ -70,8 +69,7 @@ fn finish(
 // the stages, the sums of tendencies, and what the faces and the elements have.
 pub(crate) fn step(part: &mut [u32], winds: Winds, report: &mut [i32], work: &mut [i64]) -> u64
     requires part_len { length part.old ≡ part_length quadratic winds.grid.shape }
-    requires part_bound { total quadratic winds.grid.shape part.old ≤ limit }
-    requires stored_bound { stored_total quadratic winds.grid.shape part.old ≤ limit }
+    requires part_sound { sound quadratic winds.grid.shape part.old ≡ true }
     requires report_len { length report.old ≡ faces winds.grid.shape }
     requires work_len { work_needed winds.grid.shape ≤ length work.old }
     ensures part_after { part.new ≡ (tracer_step quadratic winds.entry.grid.shape (wind_at winds.entry.wind.now) part.old).part }

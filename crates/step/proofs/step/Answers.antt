@@ -10,7 +10,7 @@ use lib.ListN.{length, take, drop}
 use lib.Seq.{length-take-le}
 use Rattle.rules.proofs.AnswerLaws.{refused-at-most, accepted-at-most, passed_on, mapped-refused}
 use Rattle.rules.specs.Answers.{accepted}
-use Rattle.rules.specs.Field.{quadratic, part, stored_total, total}
+use Rattle.rules.specs.Field.{quadratic, part, sound}
 use Rattle.rules.specs.Step.{tracer_step}
 use Rattle.rules.specs.Calls.{step, lent, wind_at, done, call}
 use Rattle.rules.proofs.PartLaws.{length-part}
@@ -78,8 +78,7 @@ step-requires c =
     let h = facts (goal.at.step-requires c).In_ok-check in
     let lent = lent_is (goal.at.step-requires c).After-part_length in record {
       part_len = ap length lent ∙ length-part quadratic g a.tracer a.field.now h.tracer h.room;
-      part_bound = omega (arith, ap (total quadratic g) lent, h.within-limit);
-      stored_bound = omega (arith, ap (stored_total quadratic g) lent, h.stored-within);
+      part_sound = ap (sound quadratic g) lent ∙ h.part-sound;
       report_len = length-take-le c.faces-faces.result a.report.now (reports-there (goal.at.step-requires c).After-work_needed-needed h) ∙ c.faces-faces.ensures;
       work_len = omega (arith, length-take-le c.work_needed-needed.result a.work.now (works-there (goal.at.step-requires c).After-work_needed-needed h), c.work_needed-needed.ensures);
     }

@@ -3,7 +3,8 @@ use mathlib.Core.Path.{◌≡◌, sym, subst, ◌∙◌}
 use native.Mathlib.Omega.{arith}
 use lib.ListN.{length}
 use Rattle.whole.specs.Bound.{AllWithin}
-use Rattle.rules.specs.Field.{limit}
+use Rattle.rules.specs.Field.{quadratic, limit}
+use Rattle.rules.proofs.FieldLaws.{summed}
 use Rattle.rules.specs.Sizes.{stage_1_size, stage_size, combined_size, earlier_sum_size}
 use Rattle.rules.specs.Step.{finish, tracer_step}
 use Rattle.field_layout.proofs.PlaceLaws.{part-is, part-is-more}
@@ -12,7 +13,10 @@ use Rattle.step.proofs.tracer.step.Goals as goal
 use Rattle.step.proofs.tracer.step.Goals.{After-split_at_mut-outflows, After-start, After-fill, After-advance, After-advance-2, After-advance-3, After-combine, After-fluxes, After-masses, After-outflows, After-limit, After-rises, Start}
 
 given : (c : Start) → Given c.args.winds.grid.shape c.args.winds.wind.now c.args.part.now
-given c = let h = c.requires in record { admits = c.args.winds.grid.admitted; winds = c.args.winds.in_range; numbers = h.part_len; within-limit = h.part_bound; stored-within = h.stored_bound }
+given c =
+    let h = c.requires in
+    let s = summed quadratic c.args.winds.grid.shape c.args.part.now (rw h.part_sound tt) in
+    record { admits = c.args.winds.grid.admitted; winds = c.args.winds.in_range; numbers = h.part_len; within-limit = s.0; stored-within = omega (arith, s.0, s.1) }
 
 -- ---- the stages
 at-1 : (c : After-advance) (h : Given c.args.winds.grid.shape c.args.winds.wind.now c.args.part.now) → (c.start.new.stage ≡ phi h 0) × ((c.advance.new.next ≡ phi h 1) × (c.advance.new.sums ≡ sums h 1))
