@@ -73,10 +73,12 @@ module _ (g : Shape) (s i j : ℕ) (f : List ℕ) (h : Inside g s i j) (room : f
       long = ap length written ∙ length-overwrite start y f (omega (arith, width, ten, starts, element-room g s i j h))
 
       -- and with the stored total after them, they replace the element and the total in the part in the field
-      pub back-in-place : (at t u : ℕ) → at ≡ s * part_length quadratic g + elements_length quadratic g → t ≡ u
-          → set (take start f ++ (x ++ drop k (drop start f))) at t ≡ with_part quadratic g s (with_stored_total quadratic g u (with_element quadratic e y (part quadratic g s f))) f
+      pub back-in-place : (t u : ℕ) → t ≡ u
+          → set (take start f ++ (x ++ drop k (drop start f))) (s * part_length quadratic g + elements_length quadratic g) t
+          ≡ with_part quadratic g s (with_stored_total quadratic g u (with_element quadratic e y (part quadratic g s f))) f
       unfolding with_part with_stored_total with_element part
-      back-in-place at t u stands total =
-          set-is at t (take start f ++ (x ++ drop k (drop start f))) (omega (arith, long, stands, total-room g s h.tracer))
-          ∙ (λ n. overwrite (stands n) (total n ∷ []) ((written ∙ ap (λ m. overwrite m y f) place) n))
+      back-in-place t u total =
+          let at = s * part_length quadratic g + elements_length quadratic g in
+          set-is at t (take start f ++ (x ++ drop k (drop start f))) (omega (arith, long, total-room g s h.tracer))
+          ∙ (λ n. overwrite at (total n ∷ []) ((written ∙ ap (λ m. overwrite m y f) place) n))
           ∙ sym (overwrite-two s (part_length quadratic g) (e * element_length quadratic) (elements_length quadratic g) y (u ∷ []) f (omega (arith, tracer-room g s h.tracer)) (omega (arith, width, ten, ends)) (omega (arith, part-is-more g)))

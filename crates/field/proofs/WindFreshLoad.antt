@@ -1,5 +1,5 @@
 -- Which tests lead to which answer of wind, fresh and load, and what the buffers are after it.
-use mathlib.Core.Path.{◌≡◌, refl, ap, subst, ◌∙◌}
+use mathlib.Core.Path.{◌≡◌, refl, sym, ap, subst, ◌∙◌}
 use mathlib.Core.Bool.{true, false}
 use mathlib.Core.List.{List, [], ◌∷◌, ◌++◌}
 use Prim.Native.Nat.{ℕ, ◌+◌, ◌-◌, ◌*◌, ◌≤◌, ◌<◌}
@@ -136,9 +136,11 @@ module _ (g : Shape) (s : ℕ) (numbers field : List ℕ) where
     long = ap length written ∙ length-overwrite at p field (omega (arith, width, room))
 
     -- and their sum behind them
-    pub load-back : (t : ℕ) → t ≡ total quadratic g (loaded quadratic g numbers) → set (take at field ++ (p ++ drop (end - at) (drop at field))) end t ≡ with_part quadratic g s (loaded quadratic g numbers) field
+    pub load-back : (t : ℕ) → t ≡ total quadratic g (loaded quadratic g numbers)
+        → set (take at field ++ (p ++ drop (end - at) (drop at field))) (s * part_length quadratic g + elements_length quadratic g) t ≡ with_part quadratic g s (loaded quadratic g numbers) field
     unfolding with_part
     load-back t sum_is =
-        set-is end t (take at field ++ (p ++ drop (end - at) (drop at field))) (omega (arith, long, room)) ∙ ap (overwrite end (t ∷ [])) written
+        let back = take at field ++ (p ++ drop (end - at) (drop at field)) in
+        ap (λ n. set back n t) (sym ends) ∙ set-is end t back (omega (arith, long, room)) ∙ ap (overwrite end (t ∷ [])) written
         ∙ overwrite-next at end p (t ∷ []) field width (omega (arith, room))
         ∙ (λ i. overwrite (starts i) (loaded-is g numbers p t made sum_is i) field)

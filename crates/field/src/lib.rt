@@ -4,7 +4,9 @@
 // for an element that is there and one for a face (`Inside`); a type for it would be made and taken apart again beside each of them.
 #![tactic(auto)]
 
-ghost use Rattle.rules.specs.Field.{quadratic};
+ghost use Rattle.std.specs.Prelude.{◌≡◌, ◌+◌, ◌*◌, ◌≤◌, ◌<◌, length};
+ghost use Rattle.std.proofs.Math.ListN.{set};
+ghost use Rattle.rules.specs.Field.{quadratic, elements_length, part_length, field_length, limit};
 ghost use Rattle.rules.specs.Calls.{load, emission, withdrawal, CallGives, FreshGives, WindGives, one_face};
 ghost use Rattle.rules.specs.Answers.{answers};
 
@@ -18,8 +20,17 @@ mod readings; // readings.rt: an element's mass, a tracer's total and its sum
 
 pub use readings::{element_mass, mass, sum_on, total, total_on};
 
-// Emission of q into element (i, j) of a tracer. The clipped mass is answered. Here and below `as` loses nothing, as is proved: no total is above the
-// limit, and a `try_from` would want an `unwrap` that never fails.
+// Stores a tracer's total. `as`: it is proved to lose nothing, and `try_from` would want an `unwrap` that never fails.
+fn store_total(field: &mut [u32], grid: Grid, tracer: usize, total: u64)
+    requires there { tracer < grid.shape.tracers }
+    requires room { field_length quadratic grid.shape ≤ length field.old }
+    requires small { total ≤ limit }
+    ensures { field.new ≡ set field.old (tracer * part_length quadratic grid.shape + elements_length quadratic grid.shape) total }
+{
+    field[grid.total_at(tracer)] = total as u32;
+}
+
+// Emission of q into element (i, j) of a tracer. The clipped mass is answered.
 pub fn emission(
     field: &mut [u32],
     shape: Shape,
@@ -38,7 +49,7 @@ pub fn emission(
     let start = grid.element_start(tracer, i, j);
     let end = start + NUMBERS;
     let clipped = element::emit(&mut field[start..end], q);
-    field[grid.total_at(tracer)] = (named.total + q) as u32;
+    store_total(field, grid, tracer, named.total + q);
     Ok(clipped)
 }
 
@@ -61,7 +72,7 @@ pub fn withdrawal(
     let start = grid.element_start(tracer, i, j);
     let end = start + NUMBERS;
     let clipped = element::withdraw(&mut field[start..end], q);
-    field[grid.total_at(tracer)] = (named.total - q) as u32;
+    store_total(field, grid, tracer, named.total - q);
     Ok(clipped)
 }
 
@@ -87,7 +98,7 @@ pub fn load(field: &mut [u32], numbers: &[u32], shape: Shape, tracer: usize) -> 
     let start = grid.tracer_start(tracer);
     let end = grid.total_at(tracer);
     fill::lay(&mut field[start..end], numbers, n);
-    field[end] = total as u32;
+    store_total(field, grid, tracer, total);
     Ok(())
 }
 

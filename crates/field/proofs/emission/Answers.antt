@@ -12,7 +12,6 @@ use Rattle.rules.proofs.AnswerLaws.{passed_on}
 use Rattle.rules.proofs.CallLaws.{length-emitted}
 use Rattle.field_layout.specs.Places.{Inside}
 use Rattle.field_layout.proofs.GridLaws.{refused-2}
-use Rattle.field_layout.proofs.PlaceLaws.{field_is, field-le}
 use Rattle.field.proofs.CheckLaws.{Held, held, grid-refused, call-refused, call-accepted, on_shape, call-bad-shape, emission-refused, emission-above, emission-accepted}
 use Rattle.field.proofs.InPlaceLaws.{mass-lent, emitted-lent, back-in-place}
 use Rattle.field.proofs.emission.Goals as goal
@@ -56,14 +55,10 @@ emit-clipped-requires-clause-q_bound c =
     let at = c.element_start-start.result in
     omega (arith, mass-lent c.in_ok-grid.grid.shape a.tracer a.i a.j a.field.now h.within h.room at c.element_start-start.ensures.start (at + 10 - at) (add-sub_cancel_left at 10), h.is, h.most, h.small, c.if-named-q.false)
 
-pub overflow_cast-field : goal.overflow_cast-field
-overflow_cast-field c = record { fits = omega (arith, c.if-named-q.false, (known (goal.at.overflow_cast-field c).In_ok-named).small) }
-
-pub total_at-requires : goal.total_at-requires
-total_at-requires c = (known (goal.at.total_at-requires c).In_ok-named).within.tracer
-
-pub offset_bounds-field-total_at : goal.offset_bounds-field-total_at
-offset_bounds-field-total_at c = let g = c.in_ok-grid.grid in record { fits = omega (arith, c.total_at.ensures.room, field_is g.shape, field-le g.shape g.admitted) }
+pub store_total-requires : goal.store_total-requires
+store_total-requires c =
+    let h = known (goal.at.store_total-requires c).In_ok-named in
+    let r = h.room in record { there = h.within.tracer; room = omega arith; small = omega (arith, c.if-named-q.false, h.small) }
 
 -- what the element is closed to is what the definition closes it to in its tracer's part
 closed : (c : After-emit-clipped) → Inside c.in_ok-grid.grid.shape c.args.tracer c.args.i c.args.j → field_length quadratic c.in_ok-grid.grid.shape ≤ length c.args.field.now
@@ -73,9 +68,6 @@ closed c w r =
     let a = c.args in
     let at = c.element_start-start.result in
     emitted-lent c.in_ok-grid.grid.shape a.tracer a.i a.j a.field.now w r at c.element_start-start.ensures.start (at + 10 - at) (add-sub_cancel_left at 10) a.q
-
-pub bounds-field-total_at : goal.bounds-field-total_at
-bounds-field-total_at c = let h = known (goal.at.bounds-field-total_at c).In_ok-named in let r = h.room in omega arith
 
 pub returns : goal.returns
 unfolding done
@@ -89,6 +81,6 @@ returns c =
     let e = call-accepted _ g a.tracer (emission a.i a.j a.q) a.field.now _ (emission-accepted g a.tracer a.i a.j a.field.now a.q _ (sym c.in_ok-named.ensures) (omega (arith, c.if-named-q.false, h.small))) in
     on_shape _ _ _ _ c.in_ok-grid.ensures.1 (
       ap accepted (c.emit-clipped.ensures.clipped ∙ ap (λ y. y.clipped) same) ∙ e.0,
-      back-in-place g a.tracer a.i a.j a.field.now h.within h.room at c.element_start-start.ensures.start (at + 10 - at) (add-sub_cancel_left at 10) _ _ (c.emit-clipped.ensures.numbers ∙ ap (λ y. y.numbers) same) (length-emitted quadratic (element g a.i a.j) a.q (part quadratic g a.tracer a.field.now))
-          c.total_at.result _ _ c.total_at.ensures.place (ap (λ n. n + a.q) h.stored) ∙ e.1,
+      c.store_total.ensures ∙ back-in-place g a.tracer a.i a.j a.field.now h.within h.room at c.element_start-start.ensures.start (at + 10 - at) (add-sub_cancel_left at 10) _ _ (c.emit-clipped.ensures.numbers ∙ ap (λ y. y.numbers) same) (length-emitted quadratic (element g a.i a.j) a.q (part quadratic g a.tracer a.field.now))
+          _ _ (ap (λ n. n + a.q) h.stored) ∙ e.1,
     )

@@ -73,6 +73,6 @@ returns c =
     let d = load-done g a.tracer a.numbers.now a.field.now (is-admitted _ c.in_ok-grid.grid.admitted) long (enough s.Else-numbers-n) c.if-grid-tracer.false (omega (arith, sum_is, c.if-total-gt-LIMIT.false)) in
     on_shape _ _ _ _ c.in_ok-grid.ensures.1 (
       d.0,
-      load-back g a.tracer a.numbers.now a.field.now c.tracer_start-start.result c.total_at-end.result c.lay.new.part c.tracer_start-start.ensures c.total_at-end.ensures.place
+      c.store_total.ensures ∙ load-back g a.tracer a.numbers.now a.field.now c.tracer_start-start.result c.total_at-end.result c.lay.new.part c.tracer_start-start.ensures c.total_at-end.ensures.place
           (laid s.After-lay) (omega (arith, c.total_at-end.ensures.room, long)) c.loaded_total-total.result sum_is ∙ d.1,
     )

@@ -12,7 +12,6 @@ use Rattle.rules.proofs.AnswerLaws.{passed_on}
 use Rattle.rules.proofs.CallLaws.{length-withdrawn}
 use Rattle.field_layout.specs.Places.{Inside}
 use Rattle.field_layout.proofs.GridLaws.{refused-2}
-use Rattle.field_layout.proofs.PlaceLaws.{field_is, field-le}
 use Rattle.field.proofs.CheckLaws.{Held, held, grid-refused, call-refused, call-accepted, on_shape, call-bad-shape, withdrawal-refused, withdrawal-over, withdrawal-accepted}
 use Rattle.field.proofs.InPlaceLaws.{mass-lent, withdrawn-lent, back-in-place}
 use Rattle.field.proofs.withdrawal.Goals as goal
@@ -62,17 +61,13 @@ withdraw-clipped-requires-clause-q_bound c =
     let s = goal.at.withdraw-clipped-requires-clause-q_bound c in
     omega (arith, lent s.After-element_start-start (known s.In_ok-named), c.if-named-q.false)
 
-pub overflow_sub-field : goal.overflow_sub-field
-overflow_sub-field c = omega (arith, c.if-named-q.false, (known (goal.at.overflow_sub-field c).In_ok-named).most)
+pub overflow_sub-named : goal.overflow_sub-named
+overflow_sub-named c = omega (arith, c.if-named-q.false, (known (goal.at.overflow_sub-named c).In_ok-named).most)
 
-pub overflow_cast-field : goal.overflow_cast-field
-overflow_cast-field c = record { fits = omega (arith, (known (goal.at.overflow_cast-field c).In_ok-named).small) }
-
-pub total_at-requires : goal.total_at-requires
-total_at-requires c = (known (goal.at.total_at-requires c).In_ok-named).within.tracer
-
-pub offset_bounds-field-total_at : goal.offset_bounds-field-total_at
-offset_bounds-field-total_at c = let g = c.in_ok-grid.grid in record { fits = omega (arith, c.total_at.ensures.room, field_is g.shape, field-le g.shape g.admitted) }
+pub store_total-requires : goal.store_total-requires
+store_total-requires c =
+    let h = known (goal.at.store_total-requires c).In_ok-named in
+    let r = h.room in record { there = h.within.tracer; room = omega arith; small = omega (arith, h.small) }
 
 -- what the element is closed to is what the definition closes it to in its tracer's part
 closed : (c : After-withdraw-clipped) → Inside c.in_ok-grid.grid.shape c.args.tracer c.args.i c.args.j → field_length quadratic c.in_ok-grid.grid.shape ≤ length c.args.field.now
@@ -82,9 +77,6 @@ closed c w r =
     let a = c.args in
     let at = c.element_start-start.result in
     withdrawn-lent c.in_ok-grid.grid.shape a.tracer a.i a.j a.field.now w r at c.element_start-start.ensures.start (at + 10 - at) (add-sub_cancel_left at 10) a.q
-
-pub bounds-field-total_at : goal.bounds-field-total_at
-bounds-field-total_at c = let h = known (goal.at.bounds-field-total_at c).In_ok-named in let r = h.room in omega arith
 
 pub returns : goal.returns
 unfolding done
@@ -98,6 +90,6 @@ returns c =
     let e = call-accepted _ g a.tracer (withdrawal a.i a.j a.q) a.field.now _ (withdrawal-accepted g a.tracer a.i a.j a.field.now a.q _ (sym c.in_ok-named.ensures) c.if-named-q.false) in
     on_shape _ _ _ _ c.in_ok-grid.ensures.1 (
       ap accepted (c.withdraw-clipped.ensures.clipped ∙ ap (λ y. y.clipped) same) ∙ e.0,
-      back-in-place g a.tracer a.i a.j a.field.now h.within h.room at c.element_start-start.ensures.start (at + 10 - at) (add-sub_cancel_left at 10) _ _ (c.withdraw-clipped.ensures.numbers ∙ ap (λ y. y.numbers) same) (length-withdrawn quadratic (element g a.i a.j) a.q (part quadratic g a.tracer a.field.now))
-          c.total_at.result _ _ c.total_at.ensures.place (ap (λ n. n - a.q) h.stored) ∙ e.1,
+      c.store_total.ensures ∙ back-in-place g a.tracer a.i a.j a.field.now h.within h.room at c.element_start-start.ensures.start (at + 10 - at) (add-sub_cancel_left at 10) _ _ (c.withdraw-clipped.ensures.numbers ∙ ap (λ y. y.numbers) same) (length-withdrawn quadratic (element g a.i a.j) a.q (part quadratic g a.tracer a.field.now))
+          _ _ (ap (λ n. n - a.q) h.stored) ∙ e.1,
     )
