@@ -1,13 +1,34 @@
--- The quadratic element's weights, by computation.
+-- The quadratic element's weights, E and the winds' shares: what is worked out are the numbers that document 01 names; and bounds on weights.
 use mathlib.Core.Path.{◌≡◌, refl}
-use mathlib.Core.List.{List, [], ◌∷◌}
+use mathlib.Core.List.{[], ◌∷◌}
 use Prim.Native.Nat.{ℕ, ◌/◌, ◌%◌, ◌≤◌, ◌<◌}
+use native.Mathlib.Omega.{arith}
 use lib.Dec.{leb, ltb, leb→le, ltb→lt}
-use lib.IntN.{ℤ, pos, ◌*ℤ◌}
-use lib.ListN.{get_or, get_or-map}
+use lib.IntN.{pos, negsuc, ◌*ℤ◌}
 use Rattle.whole.specs.Sum.{sum, all}
+use Rattle.whole.specs.Table.{table}
 use Rattle.whole.proofs.SumLaws.{all-at}
 use Rattle.rules.specs.Field.{quadratic, weight_sum}
+
+-- "ω = 1, 4, 1"
+pub line-weights-are : table 3 quadratic.line_weight ≡ 1 ∷ 4 ∷ 1 ∷ []
+unfolding quadratic table
+line-weights-are = refl
+
+-- "Node weight ωaωb", for b = 0, 1, 2 and a = 0, 1, 2
+pub weights-are : table 9 quadratic.weight ≡ 1 ∷ 4 ∷ 1 ∷ 4 ∷ 16 ∷ 4 ∷ 1 ∷ 4 ∷ 1 ∷ []
+unfolding quadratic table
+weights-are = refl
+
+-- "Rows q of E: (−3, 4, −1), (−1, 0, 1), (1, −4, 3)"
+pub derivatives-are : table 9 (λ i. quadratic.derivative (i / 3) (i % 3)) ≡ negsuc 2 ∷ pos 4 ∷ negsuc 0 ∷ negsuc 0 ∷ pos 0 ∷ pos 1 ∷ pos 1 ∷ negsuc 3 ∷ pos 3 ∷ []
+unfolding quadratic table
+derivatives-are = refl
+
+-- "c0 = 2Cw, c1 = Cw + Ce, c2 = 2Ce"
+pub west-shares-are : table 3 quadratic.west_share ≡ 2 ∷ 1 ∷ 0 ∷ []
+unfolding quadratic table
+west-shares-are = refl
 
 -- "the nine weights sum to 36"
 pub weights-36 : weight_sum quadratic ≡ 36
@@ -23,19 +44,12 @@ pub weight-le : (k : ℕ) → k < 9 → quadratic.weight k ≤ 16
 unfolding quadratic all
 weight-le k h = leb→le (quadratic.weight k) 16 (all-at 9 (λ k. leb (quadratic.weight k) 16) tt k h)
 
--- a line's weights: at most 4, and the code's table of them
-pub line-weight-le : (a : ℕ) → a < 3 → quadratic.line_weight a ≤ 4
-unfolding quadratic all
-line-weight-le a h = leb→le (quadratic.line_weight a) 4 (all-at 3 (λ a. leb (quadratic.line_weight a) 4) tt a h)
-
-abbrev pub line_weights : List ℤ
-line_weights = pos 1 ∷ pos 4 ∷ pos 1 ∷ []
-
-pub line-weight-is : (a : ℕ) → get_or line_weights a (pos 0) ≡ pos (quadratic.line_weight a)
+-- a line's weights: at most 4
+pub line-weight-le : (a : ℕ) → quadratic.line_weight a ≤ 4
 unfolding quadratic
-line-weight-is a = get_or-map pos (1 ∷ 4 ∷ 1 ∷ []) a 0
+line-weight-le a = omega arith
 
 -- "Node weight ωaωb", of whole numbers
-pub product_is : (k : ℕ) → pos (quadratic.line_weight (k % 3)) *ℤ pos (quadratic.line_weight (k / 3)) ≡ pos (quadratic.weight k)
+pub node-weight-is : (k : ℕ) → pos (quadratic.line_weight (k % 3)) *ℤ pos (quadratic.line_weight (k / 3)) ≡ pos (quadratic.weight k)
 unfolding quadratic
-product_is k = refl
+node-weight-is k = refl

@@ -42,7 +42,7 @@ cond-within true x h = h
 cond-within false x h = within-pos 0
 
 module _ (κ : Kind) (bounded-kind : BoundedKind κ) (B : ℕ) where
-  pub place_wind-within : (cw ce : ℤ) (q : ℕ) → q < κ.side → Within 1024 cw → Within 1024 ce → Within 2048 (place_wind κ cw ce q)
+  place_wind-within : (cw ce : ℤ) (q : ℕ) → q < κ.side → Within 1024 cw → Within 1024 ce → Within 2048 (place_wind κ cw ce q)
   unfolding place_wind
   place_wind-within cw ce q l h k = within-le (within-add (within-mul (within-pos (κ.west_share q)) h) (within-mul (within-pos (2 - κ.west_share q)) k)) (omega (arith, bounded-kind.share q l))
 
@@ -50,7 +50,7 @@ module _ (κ : Kind) (bounded-kind : BoundedKind κ) (B : ℕ) where
   cond-mul true x = refl
   cond-mul false x = omega arith
 
-  pub advection-within : (line : ℕ → ℤ) (cw ce uw ue : ℤ) (a : ℕ) → ((q : ℕ) → q < κ.side → Within B (line q)) → Within 1024 cw → Within 1024 ce → Within B uw → Within B ue
+  advection-within : (line : ℕ → ℤ) (cw ce uw ue : ℤ) (a : ℕ) → ((q : ℕ) → q < κ.side → Within B (line q)) → Within 1024 cw → Within 1024 ce → Within B uw → Within B ue
       → Within (line_bound κ a * B) (advection κ line cw ce uw ue a)
   unfolding advection line_bound
   advection-within line cw ce uw ue a hl hw he huw hue =
@@ -174,8 +174,8 @@ unfolding quadratic line_bound sum all
 quadratic-bounded = record {
   some = omega arith;
   place = λ k h. (mod-lt k (omega arith), omega arith);
-  share = λ q h. leb→le _ 2 (all-at 3 (λ q. leb (quadratic.west_share q) 2) tt q h);
-  above = λ a h. leb→le 1 _ (all-at 3 (λ a. leb 1 (quadratic.line_weight a)) tt a h);
+  share = λ q h. omega arith;
+  above = λ a h. omega arith;
   line = λ a h. leb→le _ _ (all-at 3 (λ a. leb (line_bound quadratic a) (28672 * quadratic.line_weight a)) tt a h);
   face = omega arith;
   divisor = omega arith;

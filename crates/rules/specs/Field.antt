@@ -1,6 +1,6 @@
 -- Document 01, "Field", and document 02, 2026-06: shapes, the kind of element, where numbers stand, what an element and a tracer hold.
 -- A tracer is document 01's smoke; a tracer's part is its numbers in the field buffer.
-use Rattle.std.specs.Prelude.{Bool, true, cond, ◌&&◌, List, [], ◌∷◌, ◌++◌, ℕ, eqb, ◌+◌, ◌*◌, ◌/◌, ◌%◌, ◌≤◌, ◌<◌, leb, ltb, ℤ, pos, negsuc, nat_abs, get_or, take, drop}
+use Rattle.std.specs.Prelude.{Bool, true, cond, ◌&&◌, List, [], ◌∷◌, ◌++◌, ℕ, eqb, ◌+◌, ◌*◌, ◌-◌, ◌/◌, ◌%◌, ◌≤◌, ◌<◌, leb, ltb, ℤ, pos, nat_abs, ◌-ℤ◌, ◌*ℤ◌, get_or, take, drop}
 use Rattle.whole.specs.Sum.{sum, all}
 use Rattle.whole.specs.Table.{overwrite}
 use Rattle.rules.specs.declared.Shape.{Shape}
@@ -66,13 +66,17 @@ pub record Kind : Type 0 where
   -- the divisor of a face's sum
   pub face_divisor : ℕ
 
+-- Weights and E are worked out: document 02, 2026-07, "The nine numbers of E are to be worked out from q and a, and the nine node weights from a and b."
+
 -- "Gauss-Lobatto weights as whole numbers: ω = 1, 4, 1"
 abbrev pub ω : ℕ → ℕ
-ω a = get_or (1 ∷ 4 ∷ 1 ∷ []) a 0
+ω a = 1 + 3 * (a % 2)
 
--- "Rows q of E: (−3, 4, −1), (−1, 0, 1), (1, −4, 3)"
+-- "Rows q of E: (−3, 4, −1), (−1, 0, 1), (1, −4, 3)": twice the slope at place q of the parabola that is 1 at place a and 0 at the two others. From a
+-- place to the next its slope grows by 1, −2, 1 for a = 0, 1, 2, and it is 0 halfway between the two others, at (3 − a) / 2: so twice the slope at q
+-- is that number times 2q + a − 3.
 abbrev pub E : ℕ → ℕ → ℤ
-E q a = get_or (negsuc 2 ∷ pos 4 ∷ negsuc 0 ∷ negsuc 0 ∷ pos 0 ∷ pos 1 ∷ pos 1 ∷ negsuc 3 ∷ pos 3 ∷ []) (3 * q + a) (pos 0)
+E q a = (pos 1 -ℤ pos (3 * (a % 2))) *ℤ (pos (2 * q + a) -ℤ pos 3)
 
 -- the quadratic element: "Node weight ωaωb"; "c0 = 2Cw, c1 = Cw + Ce, c2 = 2Ce"
 unfoldable pub quadratic : Kind
@@ -82,7 +86,7 @@ quadratic = record {
   side = 3;
   line_weight = ω;
   derivative = E;
-  west_share = λ q. get_or (2 ∷ 1 ∷ 0 ∷ []) q 0;
+  west_share = λ q. 2 - q;
   edge_factor = 12;
   face_divisor = 4096;
 }

@@ -10,15 +10,12 @@ pub const NODES: usize = 9;
 
 pub const NUMBERS: usize = 10;
 
-// Document 01's ω.
-const LINE_WEIGHTS: [i64; SIDE] = [1, 4, 1];
-
-// The weight of place a along one direction.
+// The weight of place a along one direction, document 01's ω.
 pub fn line_weight(a: usize) -> i64
     requires { a < 3 }
     ensures { Are 4 result (pos (quadratic.line_weight a)) }
 {
-    LINE_WEIGHTS[a]
+    1 + 3 * ((a % 2) as i64)
 }
 
 // The weight of node k, for sums of signed values.
@@ -29,7 +26,7 @@ pub fn signed_weight(k: usize) -> i64
     line_weight(k % SIDE) * line_weight(k / SIDE)
 }
 
-// The weight of node k, for sums of values that are not negative: one table of weights for both types.
+// The weight of node k, for sums of values that are not negative.
 pub fn node_weight(k: usize) -> u64
     requires { k < 9 }
     ensures { result ≡ quadratic.weight k }

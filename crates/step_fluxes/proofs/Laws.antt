@@ -3,7 +3,7 @@
 use mathlib.Core.Path.{◌≡◌, refl, sym, ap}
 use mathlib.Core.Bool.{Bool, true, false, cond}
 use mathlib.Core.List.{List}
-use Prim.Native.Nat.{ℕ, ◌+◌, ◌*◌, ◌%◌, ◌≤◌, ◌<◌}
+use Prim.Native.Nat.{ℕ, zero, suc, ◌+◌, ◌*◌, ◌%◌, ◌≤◌, ◌<◌}
 use native.Mathlib.Omega.{arith}
 use lib.IntN.{ℤ, pos, nat_abs, ◌+ℤ◌, ◌*ℤ◌}
 use lib.Signed.{non_neg}
@@ -35,6 +35,13 @@ pub combine-exact : {x y z : ℤ} → Within limit x → Within stage_1_size y �
 combine-exact a b c = exact (search exacts depth 20) tt
 
 -- ---- the sum over a line of nodes
+-- a node of a line stands where the line's last one does, or before
+pub node-inside : (n start stride q : ℕ) → start + 2 * stride < n → q < 3 → start + stride * q < n
+node-inside n start stride zero h l = omega (arith, h)
+node-inside n start stride (suc zero) h l = omega (arith, h)
+node-inside n start stride (suc (suc zero)) h l = omega (arith, h)
+node-inside n start stride (suc (suc (suc q))) h l = let f : ⊥ = omega (arith, l) in absurd f
+
 module _ (v : List ℤ) (start stride : ℕ) where
   abbrev pub term : ℕ → ℤ
   term r = pos (quadratic.line_weight r) *ℤ at v (start + stride * r)

@@ -15,8 +15,7 @@ ghost use Rattle.step_fluxes.specs.Face.{combined, line_sum, face_flux};
 
 use rules::element::{SIDE, line_weight};
 use step_grid::Face;
-use step_tendency::Line;
-use step_upwind::{EAST_LINE, NORTH_LINE, Winds};
+use step_upwind::{EAST_LINE, Line, NORTH_LINE, Winds};
 
 // The values of stages 0, 1 and 2, in this order, as a face sums them, at every node. All three have the same upwind elements, so that their sum has its
 // upwind values, too. Each is within its own size, so that the fluxes are as small as the rules make them. They are lent as slices: three `Stage`s

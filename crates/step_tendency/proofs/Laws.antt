@@ -1,133 +1,120 @@
--- The code's tables are the rules' numbers, the sums along a line of nodes are small, and X, Y and the tendency made of them are the
--- rules': tables by a test at each index, sizes term by term, the rest by congruence.
+-- What a line of nodes brings to the tendency is document 01's X (or Y) without the factors that the tendency divides away, and the tendency made of
+-- the lines is the rules': each place of a line by one linear equation of whole numbers, the rest by congruence.
 use mathlib.Core.Path.{◌≡◌, refl, sym, ap, ap₂, ◌∙◌}
-use mathlib.Core.Logic.{◌≢◌}
 use mathlib.Core.List.{List, [], ◌∷◌}
-use Prim.Native.Nat.{ℕ, ◌+◌, ◌*◌, ◌-◌, ◌/◌, ◌%◌, ◌^◌, ◌≤◌, ◌<◌}
-use native.Mathlib.Nat.{mod-lt, zero-add}
+use Prim.Native.Nat.{ℕ, zero, suc, ◌+◌, ◌*◌, ◌/◌, ◌%◌, ◌<◌}
+use native.Mathlib.Nat.{mul_comm}
 use native.Mathlib.Omega.{arith}
-use lib.Dec.{eqb, eqb→eq, leb, leb→le}
-use lib.IntN.{ℤ, pos, negsuc, ◌+ℤ◌, ◌-ℤ◌, ◌*ℤ◌, +ℤ_idr}
-use lib.ListN.{get_or, get_or-map}
+use lib.IntN.{ℤ, pos, negsuc, ◌+ℤ◌, ◌-ℤ◌, ◌*ℤ◌}
+use lib.ListN.{get_or}
+use Rattle.std.proofs.lemmas.Int.{ints}
 use Rattle.whole.specs.Bound.{Within, AllWithin, floor_div}
-use Rattle.whole.specs.Sum.{sum, sum_ℤ, all}
+use Rattle.whole.specs.Sum.{sum_ℤ}
 use Rattle.whole.specs.Table.{table, at}
-use Rattle.whole.proofs.Cases.{cond_no, ne→neqb}
-use Rattle.whole.proofs.BoundLaws.{within-le, within-mul, within-pos, within-sum}
-use Rattle.whole.proofs.SumLaws.{sum_mono, sum_ℤ-cong, all-at}
-use Rattle.whole.proofs.TableLaws.{get_d-table, table-all, table-cong}
-use Rattle.whole.proofs.Sizes.{peak-at}
+use Rattle.whole.proofs.BoundLaws.{within-le, within-pos}
+use Rattle.whole.proofs.ProductLaws.{product_assoc, sum-product, product-sum, floor-common}
+use Rattle.whole.proofs.TableLaws.{get_d-table, table-cong}
 use Rattle.rules.specs.Field.{quadratic}
-use Rattle.rules.specs.Stages.{place_wind, advection}
-use Rattle.rules.proofs.StageBounds.{quadratic-bounded, place_wind-within, line_bound, advection-within}
-use Rattle.rules.proofs.QuadraticLaws.{line-weight-le}
-use Rattle.rules.specs.Sizes.{stage_size}
-use Rattle.step_tendency.specs.Sizes.{place_wind_size, line_sum_size, advection_size}
-use Rattle.step_tendency.specs.Line.{weighed_wind, along_line, with_ends, line_at, line_nodes, shifts, node_tendency, local_tendency}
+use Rattle.rules.specs.Stages.{node, place_wind, advection}
+use Rattle.step_tendency.specs.Line.{place_sums, line_tendency, way_line, node_tendency, local_tendency}
 
--- ---- the code's tables
-abbrev pub west_shares : List ℤ
-west_shares = pos 2 ∷ pos 1 ∷ pos 0 ∷ []
+-- ---- three numbers as a list: each is another's, each is within n
+pub three-same : {a b d a' b' d' : ℤ} → a ≡ a' → b ≡ b' → d ≡ d' → a ∷ b ∷ d ∷ [] ≡ a' ∷ b' ∷ d' ∷ []
+three-same p q r = λ i. p i ∷ q i ∷ r i ∷ []
 
-abbrev pub east_shares : List ℤ
-east_shares = pos 0 ∷ pos 1 ∷ pos 2 ∷ []
-
-abbrev pub derivatives : List ℤ
-derivatives = negsuc 2 ∷ pos 4 ∷ negsuc 0 ∷ negsuc 0 ∷ pos 0 ∷ pos 1 ∷ pos 1 ∷ negsuc 3 ∷ pos 3 ∷ []
-
-pub west-is : (q : ℕ) → get_or west_shares q (pos 0) ≡ pos (quadratic.west_share q)
-unfolding quadratic
-west-is q = get_or-map pos (2 ∷ 1 ∷ 0 ∷ []) q 0
-
-pub east-is : (q : ℕ) → q < 3 → get_or east_shares q (pos 0) ≡ pos (2 - quadratic.west_share q)
-unfolding quadratic all
-east-is q h = get_or-map pos (0 ∷ 1 ∷ 2 ∷ []) q 0
-    ∙ ap pos (eqb→eq (get_or (0 ∷ 1 ∷ 2 ∷ []) q 0) (2 - quadratic.west_share q) (all-at 3 (λ q. eqb (get_or (0 ∷ 1 ∷ 2 ∷ []) q 0) (2 - quadratic.west_share q)) tt q h))
-
-pub wind-is : (cw ce : ℤ) (q : ℕ) → q < 3 → pos (quadratic.line_weight q) *ℤ (get_or west_shares q (pos 0) *ℤ cw +ℤ get_or east_shares q (pos 0) *ℤ ce) ≡ weighed_wind cw ce q
-unfolding place_wind
-wind-is cw ce q h = λ i. pos (quadratic.line_weight q) *ℤ (west-is q i *ℤ cw +ℤ east-is q h i *ℤ ce)
-
--- ---- sizes
-pub weighed_wind-within : (cw ce : ℤ) → Within 1024 cw → Within 1024 ce → AllWithin place_wind_size (table 3 (weighed_wind cw ce))
-unfolding quadratic
-weighed_wind-within cw ce h k = record {
-  all = table-all (Within place_wind_size) 3 (weighed_wind cw ce) (pos 0) (within-le (within-pos 0) (omega arith))
-      (λ q l. within-le (within-mul (within-pos (quadratic.line_weight q)) (place_wind-within quadratic quadratic-bounded 0 cw ce q l h k)) (omega (arith, line-weight-le q l)));
-}
-
--- one term of the sum along a line
-abbrev pub term : List ℤ → List ℤ → ℕ → ℕ → ℕ → ℕ → ℤ
-term c v start stride place q = at c q *ℤ at v (start + stride * q) *ℤ get_or derivatives (3 * q + place) (pos 0)
-
-pub terms-are : (c v : List ℤ) (start stride place : ℕ) → sum_ℤ 3 (term c v start stride place) ≡ along_line c v start stride place
-unfolding quadratic
-terms-are c v start stride place = refl
-
-pub terms-within : (c v : List ℤ) (start stride place n : ℕ) → AllWithin place_wind_size c → AllWithin stage_size v → n ≤ 3 → Within line_sum_size (sum_ℤ n (term c v start stride place))
-unfolding sum
-terms-within c v start stride place n hc hv h = within-le (within-sum n (term c v start stride place) bound
-    (λ q _. within-mul (within-mul (hc.all q) (hv.all (start + stride * q))) (record { within = peak-at derivatives (3 * q + place) }))) (sum_mono bound n 3 h)
+pub three-within : {n : ℕ} (a b d : ℤ) → Within n a → Within n b → Within n d → AllWithin n (a ∷ b ∷ d ∷ [])
+three-within {n} a b d p q r = record { all = each }
   where
-    bound : ℕ → ℕ
-    bound q = (place_wind_size * stage_size * 18)
+    each : (i : ℕ) → Within n (get_or (a ∷ b ∷ d ∷ []) i (pos 0))
+    each zero = p
+    each (suc zero) = q
+    each (suc (suc zero)) = r
+    each (suc (suc (suc i))) = within-le (within-pos 0) (omega arith)
 
--- ---- the ends of a line
-module _ (sum first last : ℤ) where
-  pub ends_last : (place : ℕ) → place ≡ 2 → sum -ℤ last ≡ with_ends sum place first last
-  ends_last place e = rw e (sym (+ℤ_idr _))
+-- ---- a line
+-- X at the first place, the middle one and the last: a0, a1, a2 are the first end's wind times the values at the three nodes, b0, b1, b2 the last
+-- end's wind times them, and f is the product of the upwind value at that end of the line
+first-place : (a0 a1 a2 b0 b1 b2 f : ℤ)
+    → pos 0 +ℤ pos 1 *ℤ (pos 2 *ℤ a0 +ℤ pos 0 *ℤ b0) *ℤ negsuc 2 +ℤ pos 4 *ℤ (pos 1 *ℤ a1 +ℤ pos 1 *ℤ b1) *ℤ negsuc 0 +ℤ pos 1 *ℤ (pos 0 *ℤ a2 +ℤ pos 2 *ℤ b2) *ℤ pos 1 -ℤ pos 0 +ℤ pos 12 *ℤ f
+    ≡ pos 2 *ℤ (pos 3 *ℤ (pos 2 *ℤ f -ℤ a0) +ℤ (b2 -ℤ pos 2 *ℤ (a1 +ℤ b1)))
+first-place a0 a1 a2 b0 b1 b2 f = omega (arith, ints)
 
-  pub ends-first : (place : ℕ) → place ≡ 0 → sum +ℤ first ≡ with_ends sum place first last
-  ends-first place e = rw e (sym (ap (λ x. x +ℤ first) (+ℤ_idr sum)))
+middle-place : (a0 a1 a2 b0 b1 b2 : ℤ)
+    → pos 0 +ℤ pos 1 *ℤ (pos 2 *ℤ a0 +ℤ pos 0 *ℤ b0) *ℤ pos 4 +ℤ pos 4 *ℤ (pos 1 *ℤ a1 +ℤ pos 1 *ℤ b1) *ℤ pos 0 +ℤ pos 1 *ℤ (pos 0 *ℤ a2 +ℤ pos 2 *ℤ b2) *ℤ negsuc 3 -ℤ pos 0 +ℤ pos 0
+    ≡ pos 8 *ℤ (a0 -ℤ b2)
+middle-place a0 a1 a2 b0 b1 b2 = omega (arith, ints)
 
-  pub ends-inner : (place : ℕ) → place ≢ 2 → place ≢ 0 → sum ≡ with_ends sum place first last
-  ends-inner place p q = sym (ap₂ (λ x y. sum -ℤ x +ℤ y) (cond_no (eqb place 2) last (pos 0) (ne→neqb place 2 p)) (cond_no (eqb place 0) first (pos 0) (ne→neqb place 0 q)) ∙ +ℤ_idr _ ∙ +ℤ_idr sum)
+last-place : (a0 a1 a2 b0 b1 b2 f : ℤ)
+    → pos 0 +ℤ pos 1 *ℤ (pos 2 *ℤ a0 +ℤ pos 0 *ℤ b0) *ℤ negsuc 0 +ℤ pos 4 *ℤ (pos 1 *ℤ a1 +ℤ pos 1 *ℤ b1) *ℤ pos 1 +ℤ pos 1 *ℤ (pos 0 *ℤ a2 +ℤ pos 2 *ℤ b2) *ℤ pos 3 -ℤ pos 12 *ℤ f +ℤ pos 0
+    ≡ pos 2 *ℤ (pos 3 *ℤ (b2 -ℤ pos 2 *ℤ f) +ℤ (pos 2 *ℤ (a1 +ℤ b1) -ℤ a0))
+last-place a0 a1 a2 b0 b1 b2 f = omega (arith, ints)
 
--- ---- the lines that go one way
--- a line with its ends is document 01's X
-pub line-is : (v : List ℤ) (start stride : ℕ) (cw ce uw ue : ℤ) (a : ℕ)
-    → line_at (table 3 (weighed_wind cw ce)) v start stride (pos 12 *ℤ cw *ℤ uw) (pos 12 *ℤ ce *ℤ ue) a ≡ advection quadratic (λ q. at v (start + stride * q)) cw ce uw ue a
-unfolding advection quadratic
-line-is v start stride cw ce uw ue a = ap (λ s. with_ends s a (pos 12 *ℤ cw *ℤ uw) (pos 12 *ℤ ce *ℤ ue))
-    (sum_ℤ-cong 3 _ _ (λ q h. ap (λ c. c *ℤ at v (start + stride * q) *ℤ quadratic.derivative q a) (get_d-table 3 (weighed_wind cw ce) q (pos 0) h)))
+module _ (φ : ℕ → ℤ) (cw ce uw ue : ℤ) where
+  -- a term of X without its number of E: the products of the two winds and a value
+  term-is : (w s t : ℕ) (v : ℤ) → pos w *ℤ (pos s *ℤ cw +ℤ pos t *ℤ ce) *ℤ v ≡ pos w *ℤ (pos s *ℤ (cw *ℤ v) +ℤ pos t *ℤ (ce *ℤ v))
+  term-is w s t v = product_assoc (pos w) (pos s *ℤ cw +ℤ pos t *ℤ ce) v
+      ∙ ap (λ x. pos w *ℤ x) (sum-product (pos s *ℤ cw) (pos t *ℤ ce) v ∙ ap₂ (λ x y. x +ℤ y) (product_assoc (pos s) cw v) (product_assoc (pos t) ce v))
 
--- X (or Y) is not too large: 114688 times the largest value at most
-pub nodes-within : (v : List ℤ) (cw ce : ℤ) (u : List ℤ) (side step stride : ℕ) → AllWithin stage_size v → Within 1024 cw → Within 1024 ce → AllWithin stage_size u
-    → AllWithin advection_size (table 9 (line_nodes v cw ce u side step stride))
-unfolding line_nodes quadratic all line_bound sum
-nodes-within v cw ce u side step stride hv hw he hu = record { all = table-all (Within advection_size) 9 (line_nodes v cw ce u side step stride) (pos 0) (within-le (within-pos 0) (omega arith)) each }
-  where
-    each : (k : ℕ) → k < 9 → Within advection_size (line_nodes v cw ce u side step stride k)
-    each k h =
-        let a : k % 3 < 3 = mod-lt k (omega arith) in
-        within-le (advection-within quadratic quadratic-bounded stage_size (λ q. at v (step * (k / 3) + stride * q)) cw ce (at u (side + k / 3)) (at u (side + 3 + k / 3)) (k % 3)
-        (λ q _. hv.all _) hw he (hu.all _) (hu.all _))
-        (omega (arith, leb→le (line_bound quadratic (k % 3)) 114688 (all-at 3 (λ a. leb (line_bound quadratic a) 114688) tt (k % 3) a)))
+  middle-is : cw *ℤ φ 1 +ℤ ce *ℤ φ 1 ≡ (cw +ℤ ce) *ℤ φ 1
+  middle-is = sym (sum-product cw ce (φ 1))
 
--- ---- the tendency at a node, from X and Y at every node
--- 8192 times a node's weight is a power of 2
-pub shift_is : (k : ℕ) → k < 9 → 2 ^ get_or shifts k 0 ≡ 8192 * (quadratic.line_weight (k % 3) * quadratic.line_weight (k / 3))
-unfolding quadratic all
-shift_is k h = eqb→eq _ _ (all-at 9 (λ k. eqb (2 ^ get_or shifts k 0) (8192 * (quadratic.line_weight (k % 3) * quadratic.line_weight (k / 3)))) tt k h)
+  line-is : (a : ℕ) → a < 3 → advection quadratic φ cw ce uw ue a ≡ pos (2 * quadratic.line_weight a) *ℤ at (line_tendency φ cw ce uw ue) a
+  unfolding advection place_wind quadratic sum_ℤ line_tendency place_sums
+  line-is zero h =
+      (λ i. pos 0 +ℤ term-is 1 2 0 (φ 0) i *ℤ negsuc 2 +ℤ term-is 4 1 1 (φ 1) i *ℤ negsuc 0 +ℤ term-is 1 0 2 (φ 2) i *ℤ pos 1 -ℤ pos 0 +ℤ product_assoc (pos 12) cw uw i)
+      ∙ first-place (cw *ℤ φ 0) (cw *ℤ φ 1) (cw *ℤ φ 2) (ce *ℤ φ 0) (ce *ℤ φ 1) (ce *ℤ φ 2) (cw *ℤ uw)
+      ∙ (λ i. pos 2 *ℤ (pos 3 *ℤ (pos 2 *ℤ (cw *ℤ uw) -ℤ cw *ℤ φ 0) +ℤ (ce *ℤ φ 2 -ℤ pos 2 *ℤ middle-is i)))
+  line-is (suc zero) h =
+      (λ i. pos 0 +ℤ term-is 1 2 0 (φ 0) i *ℤ pos 4 +ℤ term-is 4 1 1 (φ 1) i *ℤ pos 0 +ℤ term-is 1 0 2 (φ 2) i *ℤ negsuc 3 -ℤ pos 0 +ℤ pos 0)
+      ∙ middle-place (cw *ℤ φ 0) (cw *ℤ φ 1) (cw *ℤ φ 2) (ce *ℤ φ 0) (ce *ℤ φ 1) (ce *ℤ φ 2)
+  line-is (suc (suc zero)) h =
+      (λ i. pos 0 +ℤ term-is 1 2 0 (φ 0) i *ℤ negsuc 0 +ℤ term-is 4 1 1 (φ 1) i *ℤ pos 1 +ℤ term-is 1 0 2 (φ 2) i *ℤ pos 3 -ℤ product_assoc (pos 12) ce ue i +ℤ pos 0)
+      ∙ last-place (cw *ℤ φ 0) (cw *ℤ φ 1) (cw *ℤ φ 2) (ce *ℤ φ 0) (ce *ℤ φ 1) (ce *ℤ φ 2) (ce *ℤ ue)
+      ∙ (λ i. pos 2 *ℤ (pos 3 *ℤ (ce *ℤ φ 2 -ℤ pos 2 *ℤ (ce *ℤ ue)) +ℤ (pos 2 *ℤ middle-is i -ℤ cw *ℤ φ 0)))
+  line-is (suc (suc (suc a))) h = let f : ⊥ = omega arith in absurd f
 
--- node (a, b) stands at 3 a + b among the lines that go the other way
-turned : (k : ℕ) → k < 9 → (3 * (k % 3) + k / 3 < 9) × ((3 * (k % 3) + k / 3) / 3 ≡ k % 3) × ((3 * (k % 3) + k / 3) % 3 ≡ k / 3)
-turned k h = (omega arith, omega arith, omega arith)
+-- ---- the tendency at a node, from its two lines
+-- a factor of both sides
+both-shares : (ωa ωb : ℕ) (x y : ℤ) → pos ωb *ℤ (pos (2 * ωa) *ℤ x) +ℤ pos ωa *ℤ (pos (2 * ωb) *ℤ y) ≡ pos (2 * (ωa * ωb)) *ℤ (x +ℤ y)
+both-shares ωa ωb x y =
+    let ex : ωb * (2 * ωa) ≡ 2 * (ωa * ωb) = omega (arith, mul_comm ωa ωb) in
+    let ey : ωa * (2 * ωb) ≡ 2 * (ωa * ωb) = omega arith in
+    ap₂ (λ p q. p +ℤ q) (sym (product_assoc (pos ωb) (pos (2 * ωa)) x)) (sym (product_assoc (pos ωa) (pos (2 * ωb)) y))
+    ∙ (λ i. pos (ex i) *ℤ x +ℤ pos (ey i) *ℤ y) ∙ sym (product-sum (pos (2 * (ωa * ωb))) x y)
 
-pub node_tendency-is : (v c u : List ℤ) (k : ℕ) → k < 9
-    → node_tendency (table 9 (line_nodes v (at c 0) (at c 1) u 0 3 1)) (table 9 (line_nodes v (at c 2) (at c 3) u 6 1 3)) k ≡ local_tendency (at v) (at c) (at u) k
-unfolding local_tendency line_nodes quadratic
-node_tendency-is v c u k h =
-    let m = 3 * (k % 3) + k / 3 in
-    let t = turned k h in
-    let ex : (q : ℕ) → 3 * (k / 3) + 1 * q ≡ 3 * (k / 3) + q = λ q. omega arith in
-    let ey : (q : ℕ) → 1 * (m / 3) + 3 * q ≡ 3 * q + k % 3 = λ q. omega (arith, t.1) in
-    let x = get_d-table 9 (line_nodes v (at c 0) (at c 1) u 0 3 1) k (pos 0) h
-    ∙ (λ i. advection quadratic (λ q. at v (ex q i)) (at c 0) (at c 1) (at u (zero-add (k / 3) i)) (at u (3 + k / 3)) (k % 3)) in
-    let y = get_d-table 9 (line_nodes v (at c 2) (at c 3) u 6 1 3) m (pos 0) t.0
-    ∙ (λ i. advection quadratic (λ q. at v (ey q i)) (at c 2) (at c 3) (at u (6 + t.1 i)) (at u (9 + t.1 i)) (t.2 i)) in
-    λ i. floor_div (pos (quadratic.line_weight (k / 3)) *ℤ x i +ℤ pos (quadratic.line_weight (k % 3)) *ℤ y i) (shift_is k h i)
+module _ (v c u : ℕ → ℤ) where
+  -- X (or Y) at place a of line b, as the lines that go one way have it: φ, uw and ue are what the rules read there
+  place-is : (cw ce : ℤ) (side step stride b a : ℕ) (φ : ℕ → ℤ) (uw ue : ℤ) → a < 3 → b < 3
+      → ((q : ℕ) → v (step * b + stride * q) ≡ φ q) → u (side + b) ≡ uw → u (side + 3 + b) ≡ ue
+      → pos (2 * quadratic.line_weight a) *ℤ at (get_or (table 3 (way_line v u cw ce side step stride)) b []) a ≡ advection quadratic φ cw ce uw ue a
+  place-is cw ce side step stride b a φ uw ue ha hb values first last =
+      ap (λ l. pos (2 * quadratic.line_weight a) *ℤ at l a) (get_d-table 3 (way_line v u cw ce side step stride) b [] hb)
+      ∙ sym (line-is (λ q. v (step * b + stride * q)) cw ce (u (side + b)) (u (side + 3 + b)) a ha)
+      ∙ (λ i. advection quadratic (λ q. values q i) cw ce (first i) (last i) a)
 
-pub all-node_tendencies : (v c u : List ℤ)
-    → table 9 (node_tendency (table 9 (line_nodes v (at c 0) (at c 1) u 0 3 1)) (table 9 (line_nodes v (at c 2) (at c 3) u 6 1 3))) ≡ table 9 (local_tendency (at v) (at c) (at u))
-all-node_tendencies v c u = table-cong 9 _ _ (node_tendency-is v c u)
+  -- the lines that go east, and those that go north
+  abbrev pub eastward : List (List ℤ)
+  eastward = table 3 (way_line v u (c 0) (c 1) 0 3 1)
+
+  abbrev pub northward : List (List ℤ)
+  northward = table 3 (way_line v u (c 2) (c 3) 6 1 3)
+
+  node_tendency-is : (k : ℕ) → k < 9 → node_tendency eastward northward k ≡ local_tendency v c u k
+  unfolding local_tendency quadratic
+  node_tendency-is k h =
+      let a = k % 3 in
+      let b = k / 3 in
+      let ωa = quadratic.line_weight a in
+      let ωb = quadratic.line_weight b in
+      let ha : a < 3 = omega arith in
+      let hb : b < 3 = omega arith in
+      let above : 0 < 2 * (ωa * ωb) = omega arith in
+      let d : 2 * (ωa * ωb) * 4096 ≡ 8192 * (ωa * ωb) = omega arith in
+      let x = place-is (c 0) (c 1) 0 3 1 b a (λ q. v (node quadratic q b)) (u b) (u (3 + b)) ha hb (λ q. ap v (omega arith)) (ap u (omega arith)) refl in
+      let y = place-is (c 2) (c 3) 6 1 3 a b (λ q. v (node quadratic a q)) (u (6 + a)) (u (9 + a)) hb ha (λ q. ap v (omega arith)) refl refl in
+      sym (floor-common (2 * (ωa * ωb)) 4096 (at (get_or eastward b []) a +ℤ at (get_or northward a []) b) above)
+      ∙ (λ i. floor_div (sym (both-shares ωa ωb (at (get_or eastward b []) a) (at (get_or northward a []) b)) i) (d i))
+      ∙ (λ i. floor_div (pos ωb *ℤ x i +ℤ pos ωa *ℤ y i) (8192 * (ωa * ωb)))
+
+  pub all-node_tendencies : table 9 (node_tendency eastward northward) ≡ table 9 (local_tendency v c u)
+  all-node_tendencies = table-cong 9 _ _ node_tendency-is

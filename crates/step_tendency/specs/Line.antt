@@ -1,32 +1,9 @@
 -- Document 01, "Tendency", of one element, by its own values, the winds of its four faces and the upwind values there.
-use Rattle.std.specs.Prelude.{cond, List, [], ◌∷◌, ℕ, ◌+◌, ◌*◌, ◌/◌, ◌%◌, ◌^◌, eqb, get_or, ℤ, pos, ◌+ℤ◌, ◌-ℤ◌, ◌*ℤ◌}
+use Rattle.std.specs.Prelude.{List, [], ◌∷◌, ℕ, ◌+◌, ◌*◌, ◌/◌, ◌%◌, get_or, ℤ, pos, ◌+ℤ◌, ◌-ℤ◌, ◌*ℤ◌}
 use Rattle.whole.specs.Table.{at}
 use Rattle.whole.specs.Bound.{floor_div}
-use Rattle.whole.specs.Sum.{sum_ℤ}
 use Rattle.rules.specs.Field.{quadratic}
-use Rattle.rules.specs.Stages.{node, place_wind, advection}
-
--- the wind at place q between two faces, times the place's weight
-abbrev pub weighed_wind : ℤ → ℤ → ℕ → ℤ
-weighed_wind cw ce q = pos (quadratic.line_weight q) *ℤ place_wind quadratic cw ce q
-
--- the sum over a line of nodes, those at start, start + stride, .., at one place of it
-abbrev pub along_line : List ℤ → List ℤ → ℕ → ℕ → ℕ → ℤ
-along_line c v start stride place = sum_ℤ 3 (λ q. at c q *ℤ at v (start + stride * q) *ℤ quadratic.derivative q place)
-
--- the sum with what crosses the faces at the line's two ends
-abbrev pub with_ends : ℤ → ℕ → ℤ → ℤ → ℤ
-with_ends sum place first last = sum -ℤ cond (eqb place 2) last (pos 0) +ℤ cond (eqb place 0) first (pos 0)
-
--- both, at a place of the line
-abbrev pub line_at : List ℤ → List ℤ → ℕ → ℕ → ℤ → ℤ → ℕ → ℤ
-line_at c v start stride first last place = with_ends (along_line c v start stride place) place first last
-
--- X (or Y) at node k of the lines that go one way: line b starts at step b and goes on by stride
-unfoldable pub line_nodes : List ℤ → ℤ → ℤ → List ℤ → ℕ → ℕ → ℕ → ℕ → ℤ
-unfolding advection
-line_nodes v cw ce u side step stride k =
-    advection quadratic (λ q. at v (step * (k / 3) + stride * q)) cw ce (at u (side + k / 3)) (at u (side + 3 + k / 3)) (k % 3)
+use Rattle.rules.specs.Stages.{node, advection}
 
 -- the tendency at node k: v are the element's values, c the winds of its west, east, south and north face, and u the three upwind
 -- values of each, in this order
@@ -39,10 +16,25 @@ local_tendency v c u k =
     floor_div (pos (ω b) *ℤ advection quadratic (λ q. v (node quadratic q b)) (c 0) (c 1) (u b) (u (3 + b)) a
     +ℤ pos (ω a) *ℤ advection quadratic (λ q. v (node quadratic a q)) (c 2) (c 3) (u (6 + a)) (u (9 + a)) b) (8192 * (ω a * ω b))
 
--- 8192 times a node's weight is 2 to this power
-abbrev pub shifts : List ℕ
-shifts = 13 ∷ 15 ∷ 13 ∷ 15 ∷ 17 ∷ 15 ∷ 13 ∷ 15 ∷ 13 ∷ []
+-- 4096 times what a line of nodes brings to the tendency at its three places, before that is rounded down: X (or Y) divided by twice the place's
+-- weight. From the products of winds and values at its three nodes, and from those of the upwind values at its first and its last end.
+unfoldable pub place_sums : ℤ → ℤ → ℤ → ℤ → ℤ → List ℤ
+place_sums first middle last first_end last_end =
+    (pos 3 *ℤ (pos 2 *ℤ first_end -ℤ first) +ℤ (last -ℤ pos 2 *ℤ middle))
+    ∷ (first -ℤ last)
+    ∷ (pos 3 *ℤ (last -ℤ pos 2 *ℤ last_end) +ℤ (pos 2 *ℤ middle -ℤ first))
+    ∷ []
 
--- the tendency at node k, from X and Y at every node
-abbrev pub node_tendency : List ℤ → List ℤ → ℕ → ℤ
-node_tendency x y k = floor_div (pos (quadratic.line_weight (k / 3)) *ℤ at x k +ℤ pos (quadratic.line_weight (k % 3)) *ℤ at y (3 * (k % 3) + k / 3)) (2 ^ get_or shifts k 0)
+-- the same from the values of its nodes, and from the winds cw and ce and the upwind values uw and ue of the faces at its two ends
+unfoldable pub line_tendency : (ℕ → ℤ) → ℤ → ℤ → ℤ → ℤ → List ℤ
+unfolding place_sums
+line_tendency φ cw ce uw ue = place_sums (cw *ℤ φ 0) ((cw +ℤ ce) *ℤ φ 1) (ce *ℤ φ 2) (cw *ℤ uw) (ce *ℤ ue)
+
+-- the same of line b of those that go one way, from the values v and the upwind values u: it starts at step b and goes on by stride, and the upwind
+-- values of its two ends stand at side + b and three further
+abbrev pub way_line : (ℕ → ℤ) → (ℕ → ℤ) → ℤ → ℤ → ℕ → ℕ → ℕ → ℕ → List ℤ
+way_line v u cw ce side step stride b = line_tendency (λ q. v (step * b + stride * q)) cw ce (u (side + b)) (u (side + 3 + b))
+
+-- the tendency at node k, from the lines that go east and those that go north
+abbrev pub node_tendency : List (List ℤ) → List (List ℤ) → ℕ → ℤ
+node_tendency x y k = floor_div (at (get_or x (k / 3) []) (k % 3) +ℤ at (get_or y (k % 3) []) (k / 3)) 4096

@@ -1,8 +1,11 @@
--- What an element's lines give at a node.
-use Rattle.std.specs.Prelude.{ℕ, ℤ}
+-- What an element's lines of one way bring to its tendencies.
+use Rattle.std.specs.Prelude.{List, ℕ, ℤ}
+use Rattle.whole.specs.Table.{table, at}
 use Rattle.step_tendency.specs.declared.Lines.{Lines}
-use Rattle.step_tendency.specs.Line.{line_nodes}
+use Rattle.step_tendency.specs.Line.{way_line}
 
--- X (or Y) at node k of the lines that go one way
-abbrev pub node_advection : Lines → ℕ → ℤ
-node_advection l = line_nodes l.v.now l.winds.first l.winds.last l.u.now l.way.side l.way.step l.way.stride
+abbrev pub line_of : Lines → ℕ → List ℤ
+line_of l = way_line (at l.v.now) (at l.u.now) l.first_wind l.last_wind l.way.side l.way.step l.way.stride
+
+abbrev pub lines_of : Lines → List (List ℤ)
+lines_of l = table 3 (line_of l)

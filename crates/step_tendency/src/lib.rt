@@ -2,72 +2,18 @@
 // Every function here is a leaf: values are as small as the stages are, and winds within 1024.
 #![tactic(auto)]
 
-ghost use Rattle.std.specs.Prelude.{◌≡◌, ◌+◌, ◌*◌, ◌≤◌, ◌<◌};
-ghost use Rattle.whole.specs.Bound.{Within, Are, AllWithin};
+ghost use Rattle.std.specs.Prelude.{◌≡◌, ◌+◌, ◌*◌, ◌≤◌, ◌<◌, ◌*ℤ◌};
+ghost use Rattle.whole.specs.Bound.{Within, AllWithin};
 ghost use Rattle.whole.specs.Table.{table, at};
 ghost use Rattle.rules.specs.Sizes.{stage_size};
-ghost use Rattle.step_tendency.specs.Sizes.{place_wind_size, line_sum_size, end_size, line_size, advection_size};
-ghost use Rattle.step_tendency.specs.Line.{weighed_wind, along_line, with_ends, node_tendency, local_tendency};
+ghost use Rattle.step_tendency.specs.Sizes.{product_size, line_size, LinesWithin};
+ghost use Rattle.step_tendency.specs.Line.{place_sums, node_tendency, local_tendency};
 
-use rules::element::{NODES, SIDE, line_weight};
+use rules::element::{NODES, SIDE};
 use std::array;
 
 // How many upwind values an element's four sides have. They stand in one row, as the definition numbers them.
 pub const UPWIND_VALUES: usize = 4 * SIDE;
-
-// The last place of a line of nodes.
-const LAST_PLACE: usize = SIDE - 1;
-
-// The shares of the west and the east wind at each place between two faces.
-const WEST_SHARES: [i64; SIDE] = [2, 1, 0];
-
-const EAST_SHARES: [i64; SIDE] = [0, 1, 2];
-
-// Rows q of document 01's E.
-const DERIVATIVE: [i64; NODES] = [-3, 4, -1, -1, 0, 1, 1, -4, 3];
-
-// 8192 times a node's weight is 2 to this power.
-const SHIFTS: [u32; NODES] = [13, 15, 13, 15, 17, 15, 13, 15, 13];
-
-// The winds of the two faces at the ends of a line of nodes.
-#[derive(Clone, Copy)]
-struct EndWinds {
-    first: i64,
-    last: i64,
-    ghost first_in_range: { Within 1024 first },
-    ghost last_in_range: { Within 1024 last },
-}
-
-impl EndWinds {
-    // The wind at place q between the two faces, times the place's weight.
-    fn weighed(self, q: usize) -> i64
-        requires { q < 3 }
-        ensures { result ≡ weighed_wind self.first self.last q }
-    {
-        line_weight(q) * (WEST_SHARES[q] * self.first + EAST_SHARES[q] * self.last)
-    }
-
-    // The same at each place.
-    fn at_places(self) -> [i64; SIDE]
-        ensures { result ≡ table 3 (weighed_wind self.first self.last) }
-    {
-        array::from_fn(|q| self.weighed(q))
-    }
-}
-
-// What crosses the faces at the two ends of a line of nodes.
-#[derive(Clone, Copy)]
-struct Ends {
-    first: i64,
-    last: i64,
-}
-
-// A line of nodes: its first one, and how much further the next one stands.
-#[derive(Clone, Copy)]
-pub struct Line {
-    pub start: usize,
-    pub stride: usize,
-}
 
 // One of the two ways that an element's lines go: line b starts at step b and goes on by stride. The upwind values of the lines'
 // first ends stand from place side on, those of their last ends three places further.
@@ -92,85 +38,87 @@ const NORTHWARD: Way = Way {
     stride: SIDE,
 };
 
-// The sum with what crosses the faces at the line's two ends.
-fn with_ends(sum: i64, place: usize, ends: Ends) -> i64
-    requires within { Within line_sum_size sum }
-    requires within_2 { Within end_size ends.first }
-    requires within_3 { Within end_size ends.last }
-    ensures { Are line_size result (with_ends sum place ends.first ends.last) }
+// A wind, or the sum of two, times a value.
+fn product(wind: i64, value: i64) -> i64
+    requires wind_small { Within 2048 wind }
+    requires value_small { Within stage_size value }
+    ensures value { result ≡ wind *ℤ value }
+    ensures small { Within product_size result }
 {
-    match place {
-        0 => sum + ends.first,
-        LAST_PLACE => sum - ends.last,
-        _ => sum,
-    }
+    wind * value
 }
 
-// The three lines of an element that go one way: the element's nine values, the winds of the faces at the lines' ends, and the upwind
-// values of its four faces.
+// 4096 times what a line brings to the tendency at its three places, from the products of winds and values at its three nodes and at its two ends.
+// E's numbers, the weights and the winds' shares are multiplied out: 1, 2 and 3 are left (`line-is`).
+fn place_sums(first: i64, middle: i64, last: i64, first_end: i64, last_end: i64) -> [i64; SIDE]
+    requires first_small { Within product_size first }
+    requires middle_small { Within product_size middle }
+    requires last_small { Within product_size last }
+    requires first_end_small { Within product_size first_end }
+    requires last_end_small { Within product_size last_end }
+    ensures value { result ≡ place_sums first middle last first_end last_end }
+    ensures small { AllWithin line_size result }
+{
+    [
+        3 * (2 * first_end - first) + (last - 2 * middle),
+        first - last,
+        3 * (last - 2 * last_end) + (2 * middle - first),
+    ]
+}
+
+// The three lines of an element that go one way: the element's nine values, the winds of the faces at the lines' first and last ends, and the
+// upwind values of its four faces.
 #[derive(Clone, Copy)]
 struct Lines<'a> {
     v: &'a [i64; NODES],
-    winds: EndWinds,
+    first_wind: i64,
+    last_wind: i64,
     u: &'a [i64; UPWIND_VALUES],
     way: Way,
     ghost values_small: { AllWithin stage_size v.now },
+    ghost first_in_range: { Within 1024 first_wind },
+    ghost last_in_range: { Within 1024 last_wind },
     ghost upwind_small: { AllWithin stage_size u.now },
 }
 
 impl Lines<'_> {
-    ghost use Rattle.step_tendency.specs.Lines.{node_advection};
+    ghost use Rattle.step_tendency.specs.Lines.{line_of, lines_of};
 
-    // The sum over a line of nodes, at one place of it.
-    fn along(self, c: &[i64; SIDE], line: Line, place: usize) -> i64
-        requires all_within { AllWithin place_wind_size c.now }
-        requires stride_bound { line.start + 2 * line.stride < 9 }
-        requires place_bound { place < 3 }
-        ensures { Are line_sum_size result (along_line c.now self.entry.v.now line.start line.stride place) }
+    // What line b brings to the tendency at its three places.
+    fn line(self, b: usize) -> [i64; SIDE]
+        requires { b < 3 }
+        ensures value { result ≡ line_of self.entry b }
+        ensures small { AllWithin line_size result }
     {
-        (0..SIDE)
-            .map(|q| c[q] * self.v[line.start + line.stride * q] * DERIVATIVE[SIDE * q + place])
-            .sum()
+        let Way { side, step, stride } = self.way;
+        let start = step * b;
+        let first = product(self.first_wind, self.v[start]);
+        let middle = product(self.first_wind + self.last_wind, self.v[start + stride]);
+        let last = product(self.last_wind, self.v[start + 2 * stride]);
+        let first_end = product(self.first_wind, self.u[side + b]);
+        let last_end = product(self.last_wind, self.u[side + SIDE + b]);
+        place_sums(first, middle, last, first_end, last_end)
     }
 
-    // Document 01's X (or Y) at node k, from the winds c of the places between the two faces.
-    fn node(self, c: &[i64; SIDE], k: usize) -> i64
-        requires c_value { c.now ≡ table 3 (weighed_wind self.winds.first self.winds.last) }
-        requires node_bound { k < 9 }
-        ensures { result ≡ node_advection self.entry k }
+    // The same of its three lines.
+    fn lines(self) -> [[i64; SIDE]; SIDE]
+        ensures value { result ≡ lines_of self.entry }
+        ensures small { LinesWithin line_size result }
     {
-        let way = self.way;
-        let b = k / SIDE;
-        let line = Line {
-            start: way.step * b,
-            stride: way.stride,
-        };
-        let first = 12 * self.winds.first * self.u[way.side + b];
-        let last = 12 * self.winds.last * self.u[way.side + SIDE + b];
-        let place = k % SIDE;
-        with_ends(self.along(c, line, place), place, Ends { first, last })
-    }
-
-    // The same at every node.
-    fn nodes(self) -> [i64; NODES]
-        ensures value { result ≡ table 9 (node_advection self.entry) }
-        ensures small { AllWithin advection_size result }
-    {
-        let c = self.winds.at_places();
-        array::from_fn(|k| self.node(&c, k))
+        [self.line(0), self.line(1), self.line(2)]
     }
 }
 
-// The tendency at node k, from X and Y at every node.
-fn node_tendency(x: &[i64; NODES], y: &[i64; NODES], k: usize) -> i64
-    requires all_within { AllWithin advection_size x.now }
-    requires all_within_2 { AllWithin advection_size y.now }
-    requires node_bound { k < 9 }
+// The tendency at node k, from the lines of both ways: one and the same shift at every node.
+fn node_tendency(x: &[[i64; SIDE]; SIDE], y: &[[i64; SIDE]; SIDE], k: usize) -> i64
+    requires x_small { LinesWithin line_size x.now }
+    requires y_small { LinesWithin line_size y.now }
+    requires k_bound { k < 9 }
     ensures { result ≡ node_tendency x.now y.now k }
 {
     let a = k % SIDE;
     let b = k / SIDE;
-    (line_weight(b) * x[k] + line_weight(a) * y[SIDE * a + b]) >> SHIFTS[k]
+    (x[b][a] + y[a][b]) >> 12
 }
 
 // The tendency at each node. The winds c are those of the west, east, south and north face, and u has the three upwind values
@@ -184,23 +132,19 @@ pub fn tendencies(v: &[i64; NODES], c: &[i64; 4], u: &[i64; UPWIND_VALUES]) -> [
     let [west, east, south, north] = *c;
     let x = Lines {
         v,
-        winds: EndWinds {
-            first: west,
-            last: east,
-        },
+        first_wind: west,
+        last_wind: east,
         u,
         way: EASTWARD,
     }
-    .nodes();
+    .lines();
     let y = Lines {
         v,
-        winds: EndWinds {
-            first: south,
-            last: north,
-        },
+        first_wind: south,
+        last_wind: north,
         u,
         way: NORTHWARD,
     }
-    .nodes();
+    .lines();
     array::from_fn(|k| node_tendency(&x, &y, k))
 }

@@ -16,7 +16,14 @@ use field_layout::Grid;
 use rules::element::{NODES, SIDE};
 use std::array;
 use step_grid::Element;
-use step_tendency::{Line, UPWIND_VALUES};
+use step_tendency::UPWIND_VALUES;
+
+// A line of nodes: its first one, and how much further the next one stands.
+#[derive(Clone, Copy)]
+pub struct Line {
+    pub start: usize,
+    pub stride: usize,
+}
 
 // The line of nodes at an element's east side, and the one at its north side.
 pub const EAST_LINE: Line = Line {

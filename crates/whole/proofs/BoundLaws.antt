@@ -58,10 +58,6 @@ abs-floor (negsuc a) k = omega (arith, div_mono a (suc a) k (le-suc a))
 pub within-floor-any : (z : ℤ) (k n : ℕ) → Within n z → Within (n / k + 1) (floor_div z k)
 within-floor-any z k n p = record { within = le_trans (abs-floor z k) (omega (arith, div_mono (nat_abs z) n k p.within)) }
 
--- the same for a divisor that is not a numeral
-pub within-floor-le : (z : ℤ) (k n : ℕ) → Within n z → Within (n + 1) (floor_div z k)
-within-floor-le z k n p = within-le (within-floor-any z k n p) (omega (arith, div-le_self n k))
-
 abs-quot : (a b : ℤ) → nat_abs (quot_z a b) ≤ nat_abs a
 abs-quot (pos a) (pos b) = div-le_self a b
 abs-quot (pos a) (negsuc b) = rw (abs_neg (pos (a / suc b))) (div-le_self a (suc b))

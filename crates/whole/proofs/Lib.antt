@@ -11,6 +11,7 @@ pub mod ListParts
 pub mod BoundLaws
 pub mod Sizes
 pub mod FloorLaws
+pub mod ProductLaws
 pub mod NearestLaws
 pub mod NearestOne
 pub mod NearestFloor

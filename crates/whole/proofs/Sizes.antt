@@ -4,9 +4,9 @@
 -- result `exact (search exacts depth 20) tt`. A search takes the shallowest proof: the sets are small, and layered.
 use mathlib.Core.Path.{◌≡◌, refl, sym, ap, subst, ◌∙◌}
 use mathlib.Core.Bool.{Bool, true, ◌&&◌}
-use mathlib.Core.List.{List, [], ◌∷◌}
-use Prim.Native.Nat.{ℕ, zero, suc, ◌+◌, ◌*◌, ◌/◌, ◌%◌, ◌^◌, ◌≤◌, ◌<◌}
-use native.Mathlib.Nat.{le_trans, le_of_lt, lt_of_le_of_lt, le_refl}
+use mathlib.Core.List.{List}
+use Prim.Native.Nat.{ℕ, suc, ◌+◌, ◌*◌, ◌/◌, ◌%◌, ◌^◌, ◌<◌}
+use native.Mathlib.Nat.{le_trans, le_of_lt, lt_of_le_of_lt}
 use native.Mathlib.Omega.{arith}
 use lib.Bits.{bit_and}
 use lib.Dec.{T, ltb, leb, leb→le, ltb→lt}
@@ -17,7 +17,7 @@ use mir.Syntax.{Width, w32, w64}
 use mir.Val.{SFits, Fits, bits, hbits, to_z, of_z}
 use mir.Facts.{to_z-of_z, and_yes, to_z_pos}
 use Rattle.whole.specs.Bound.{Within, Are, AllWithin, floor_div}
-use Rattle.whole.proofs.BoundLaws.{within-le, within-add, within-mul, within-neg, within-pos, within-neg-suc, within-floor-any, within-floor-le, within-rem, within-quot, within-mag, within-back, mag-le, low_bit, parity-bit}
+use Rattle.whole.proofs.BoundLaws.{within-le, within-add, within-mul, within-neg, within-pos, within-neg-suc, within-floor-any, within-rem, within-quot, within-mag, within-back, mag-le, low_bit, parity-bit}
 
 pub record Sized (z : ℤ) : Type 0 where
   pub size : ℕ
@@ -95,19 +95,6 @@ s_call r z n p = record { size = n; small = subst (λ (x : ℤ). Within n x) (sy
 abbrev pub s-at : (l : List ℤ) (i : ℕ) (n : ℕ) → AllWithin n l → Sized (get_or l i (pos 0))
 s-at l i n h = record { size = n; small = h.all i }
 
--- a table of constants: the sum of its sizes bounds each entry
-abbrev pub peak : List ℤ → ℕ
-peak [] = 0
-peak (x ∷ l) = nat_abs x + peak l
-
-pub peak-at : (l : List ℤ) (i : ℕ) → nat_abs (get_or l i (pos 0)) ≤ peak l
-peak-at [] i = le_refl 0
-peak-at (x ∷ l) zero = omega arith
-peak-at (x ∷ l) (suc i) = omega (arith, peak-at l i)
-
-abbrev pub s-table : (x : ℤ) (l : List ℤ) (i : ℕ) → Sized (get_or (x ∷ l) i (pos 0))
-s-table x l i = record { size = peak (x ∷ l); small = record { within = peak-at (x ∷ l) i } }
-
 -- a number of a narrower type
 abbrev pub s-i16 : (z : ℤ) → mag z < 2 ^ 15 → Sized z
 s-i16 z h = record { size = 2 ^ 15; small = within-mag z (2 ^ 15) h }
@@ -153,10 +140,6 @@ e-neg r z p = record { size = p.size; small = within-neg p.small; good = p.good;
 abbrev pub e-floor : (r a : ℤ) (k : ℕ) → Exact r a → Exact (floor_div r k) (floor_div a k)
 e-floor r a k p = record { size = p.size / k + 1; small = within-floor-any r k p.size p.small; good = p.good; same = λ t. ap (λ (x : ℤ). floor_div x k) (p.same t) }
 
--- a floor by a divisor that is not a numeral
-abbrev pub e-shift : (r a : ℤ) (k : ℕ) → Exact r a → Exact (floor_div r k) (floor_div a k)
-e-shift r a k p = record { size = p.size + 1; small = within-floor-le r k p.size p.small; good = p.good; same = λ t. ap (λ (x : ℤ). floor_div x k) (p.same t) }
-
 abbrev pub e-quot : (r s a b : ℤ) → Exact r a → Exact s b → Exact (quot_z r s) (quot_z a b)
 e-quot r s a b p q = record { size = p.size; small = within-quot r s p.small; good = p.good && q.good; same = λ t. both-same quot_z p q t }
 
@@ -178,9 +161,6 @@ e-call r z n p = record { size = n; small = subst (λ (x : ℤ). Within n x) (sy
 
 abbrev pub e-at : (l : List ℤ) (i : ℕ) (n : ℕ) → AllWithin n l → Exact (get_or l i (pos 0)) (get_or l i (pos 0))
 e-at l i n h = record { size = n; small = h.all i; good = true; same = λ t. refl }
-
-abbrev pub e-table : (x : ℤ) (l : List ℤ) (i : ℕ) → Exact (get_or (x ∷ l) i (pos 0)) (get_or (x ∷ l) i (pos 0))
-e-table x l i = record { size = peak (x ∷ l); small = record { within = peak-at (x ∷ l) i }; good = true; same = λ t. refl }
 
 -- an unsigned number, cast
 pub u32-back : (n : ℕ) → Fits w32 n → to_z w64 n ≡ pos n
@@ -204,11 +184,9 @@ abbrev pub t-le : (r s a b : ℤ) → Exact r a → Exact s b → ExactTest (le_
 t-le r s a b p q = record { goodt = p.good && q.good; samet = λ t. both-same le_z p q t }
 
 -- ---- the sets: take the smallest that serves
-pub ruleset sizes = (s-leaf, s-pos, s-neg-suc, s-table, s-at, s_call, s-add, s-mul, s-neg, s-floor, s-back)
+pub ruleset sizes = (s-leaf, s-pos, s-neg-suc, s-at, s_call, s-add, s-mul, s-neg, s-floor, s-back)
 
-pub ruleset exacts = (e-leaf, e-pos, e-neg-suc, e-table, e-at, e-call, e-back, e_add, e_mul, e-neg, e-floor)
-
-pub ruleset exacts-shift = (e-leaf, e-pos, e-neg-suc, e-table, e-at, e-call, e-back, e_add, e_mul, e-neg, e-shift)
+pub ruleset exacts = (e-leaf, e-pos, e-neg-suc, e-at, e-call, e-back, e_add, e_mul, e-neg, e-floor)
 
 pub ruleset sizes-wide = (sizes, s-i16, s-i32, s-u32, s-quot, s-rem)
 

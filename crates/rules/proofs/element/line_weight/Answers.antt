@@ -1,7 +1,9 @@
-use mathlib.Core.Path.{◌∙◌}
-use Rattle.whole.proofs.Sizes.{exacts, exact}
-use Rattle.rules.proofs.QuadraticLaws.{line-weight-is, line-weight-le}
+use Rattle.std.proofs.Common.{arith}
+use Rattle.std.proofs.lemmas.Int.{ints}
+use Rattle.rules.specs.Field.{quadratic}
+use Rattle.rules.proofs.QuadraticLaws.{line-weight-le}
 use Rattle.rules.proofs.element.line_weight.Goals as goal
 
 pub returns : goal.returns
-returns c = record { same = exact (search exacts depth 20) tt ∙ line-weight-is c.args.a; bound = record { within = line-weight-le c.args.a c.requires } }
+unfolding quadratic
+returns c = record { same = omega (arith, ints); bound = record { within = line-weight-le c.args.a } }

@@ -1,6 +1,6 @@
 use mathlib.Core.Path.{◌∙◌}
 use Rattle.whole.proofs.Sizes.{sizes, exacts, fits, exact}
-use Rattle.rules.proofs.QuadraticLaws.{weight-le, product_is}
+use Rattle.rules.proofs.QuadraticLaws.{weight-le, node-weight-is}
 use Rattle.rules.proofs.element.signed_weight.Goals as goal
 
 pub overflow_mul-result : goal.overflow_mul-result
@@ -10,4 +10,4 @@ pub returns : goal.returns
 returns c =
     let a = c.line_weight.ensures in
     let b = c.line_weight-2.ensures in
-    record { same = exact (search exacts depth 20) tt ∙ product_is c.args.k; bound = record { within = weight-le c.args.k c.requires } }
+    record { same = exact (search exacts depth 20) tt ∙ node-weight-is c.args.k; bound = record { within = weight-le c.args.k c.requires } }

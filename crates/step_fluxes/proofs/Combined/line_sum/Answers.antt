@@ -3,8 +3,7 @@ use Prim.Native.Nat.{ℕ, ◌+◌, ◌*◌}
 use mir.Syntax.{w64}
 use Rattle.whole.proofs.ChainSums.{below-items, below-sum_ℤ, below-fits_ℤ, serves-below}
 use Rattle.whole.proofs.Sizes.{sizes, fits, read_back}
-use Rattle.step_tendency.proofs.AlongLaws.{node-inside}
-use Rattle.step_fluxes.proofs.Laws.{term, term-fits, term-is, terms-within}
+use Rattle.step_fluxes.proofs.Laws.{node-inside, term, term-fits, term-is, terms-within}
 use Rattle.step_fluxes.proofs.Combined.line_sum.Goals as goal
 use Rattle.step_fluxes.proofs.Combined.line_sum.Goals.{Start}
 
