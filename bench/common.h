@@ -35,7 +35,7 @@ static inline void draw_smoke(uint32_t *part, size_t n)
 }
 
 /* In nanoseconds. */
-static double now(void)
+static inline double now(void)
 {
     struct timespec t;
     clock_gettime(CLOCK_MONOTONIC, &t);

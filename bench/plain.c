@@ -1,4 +1,4 @@
-/* The step of one smoke in plain C, for the benchmark: the same buffers and the same order of work as the proved one. */
+/* The step of one smoke in plain C, for the benchmark: the documents' rules as they are written down, in the same buffers. */
 #include "plain.h"
 
 #define LIMIT 100000000u

@@ -1,26 +1,31 @@
--- The sums that the closing's loops keep are within bounds: every term by its value's size and its weight, and nine weights make 36.
-use mathlib.Core.Path.{◌≡◌, refl, sym, ap, subst, ◌∙◌}
-use mathlib.Core.List.{List}
-use Prim.Native.Nat.{ℕ, ◌+◌, ◌*◌, ◌≤◌, ◌<◌}
-use native.Mathlib.Nat.{mul-le-mul, le_trans, mul-le-mul_left, mul-le-mul_right, one-mul}
+-- The closing's sums are within bounds: every term by its value's size and its weight, and nine weights make 36. And its values: those of a list that is
+-- a table, and those that it closes with.
+use mathlib.Core.Path.{◌≡◌, sym, ap, subst, ◌∙◌}
+use mathlib.Core.List.{List, [], ◌∷◌, ◌++◌}
+use Prim.Native.Nat.{ℕ, ◌*◌, ◌-◌, ◌^◌, ◌≤◌, ◌<◌}
+use native.Mathlib.Nat.{mul-le-mul_left, mul-le-mul_right, one-mul}
 use native.Mathlib.Omega.{arith}
 use lib.IntN.{ℤ, pos, ◌+ℤ◌, ◌*ℤ◌}
+use lib.ListN.{length, take}
+use lib.Seq.{take-length}
 use mir.Syntax.{w64}
 use mir.Val.{to_z, of_z, Fits, SFits}
 use Rattle.whole.proofs.Sizes.{sizes, exacts, fits, exact}
-use Rattle.whole.specs.Table.{at}
+use Rattle.whole.specs.Table.{at, table}
 use Rattle.whole.specs.Bound.{Within, Are, AllWithin}
 use Rattle.whole.specs.Sum.{sum, sum_ℤ}
 use Rattle.whole.proofs.BoundLaws.{within-le, within-add, within-mul, within-pos, within-sum}
-use Rattle.whole.proofs.SumLaws.{sum-le, sum_more, sum_mono, weighted-raised}
+use Rattle.whole.proofs.SumLaws.{sum-le, sum-mul-right, sum_mono, term-le, weighted-raised}
+use Rattle.whole.proofs.TableLaws.{get_d-table, table-all, table-cong, table-take}
 use Rattle.whole.proofs.WholeLaws.{positive-le, negative-le}
 use Rattle.rules.specs.Field.{quadratic, weight_sum, weighted}
-use Rattle.rules.specs.Limiter.{signed_sum, truncated, clipped, rescaled_value}
+use Rattle.rules.specs.Limiter.{signed_sum, truncated, clipped, rescaled, rescaled_value, closing_remainder}
 use Rattle.rules.specs.Sizes.{closing_size, shift_size, levelled_size, clipped_size}
 use Rattle.rules.proofs.ClippedLaws.{clipped-le}
-use Rattle.rules.proofs.LimiterLaws.{values-le}
-use Rattle.rules.proofs.QuadraticLaws.{weights-36, weights-above, weight-le}
+use Rattle.rules.proofs.LimiterLaws.{values-le, weighted-cong}
+use Rattle.rules.proofs.QuadraticLaws.{weights-36, weights-above}
 use Rattle.limiter.specs.Shifted.{shifted}
+use Rattle.limiter.specs.Values.{value_of, AllUpTo}
 
 -- one term of the signed sum
 abbrev pub term : List ℤ → ℕ → ℤ
@@ -50,17 +55,48 @@ pub sum-within : (l : List ℤ) → AllWithin closing_size l → Within (36 * cl
 unfolding quadratic
 sum-within l h = terms-within l 9 h (omega arith)
 
--- the weighted sum of the first n values
-abbrev pub weighted_to : (ℕ → ℕ) → ℕ → ℕ
-weighted_to v n = sum n (λ k. quadratic.weight k * v k)
+-- ---- nine values, none of them negative, and their weighted sum
+module _ (v : ℕ → ℕ) (k : ℕ) (h : k < 9) where
+  node-le : quadratic.weight k * v k ≤ weighted quadratic v
+  unfolding weighted quadratic
+  node-le = term-le 9 (λ k. quadratic.weight k * v k) k h
 
-pub weighted_to-all : (v : ℕ → ℕ) → weighted_to v 9 ≡ weighted quadratic v
-unfolding weighted quadratic
-weighted_to-all v = refl
+  value-le : v k ≤ weighted quadratic v
+  value-le = omega (arith, mul-le-mul_right (v k) (weights-above k h), one-mul (v k), node-le)
 
--- one value more, as a loop adds it
-pub weighted-next : (v : ℕ → ℕ) (k w x s : ℕ) → w ≡ quadratic.weight k → x ≡ v k → s ≡ weighted_to v k → s + w * x ≡ weighted_to v (k + 1)
-weighted-next v k w x s a b c = rw (a, b, c) (sym (sum_more k (λ k. quadratic.weight k * v k)))
+-- a node's weight, as the code gives it, times its value fits where the sum does
+pub node-fits : (l : List ℕ) (k : ℕ) {w : ℕ} → k < 9 → weighted quadratic (value_of l) < 2 ^ 64 → w ≡ quadratic.weight k → Fits w64 (w * value_of l k)
+node-fits l k h b e = record { fits = rw e (omega (arith, b, node-le (value_of l) k h)) }
+
+-- a value is at most their sum
+pub value-le-sum : (l : List ℕ) (k : ℕ) {p : ℕ} → k < 9 → p ≡ weighted quadratic (value_of l) → value_of l k ≤ p
+value-le-sum l k h e = rw e (value-le (value_of l) k h)
+
+-- the sum of values of at most m
+pub weighted-le : (v : ℕ → ℕ) (m : ℕ) → ((k : ℕ) → k < 9 → v k ≤ m) → weighted quadratic v ≤ 36 * m
+unfolding weighted weight_sum quadratic
+weighted-le v m h = omega (
+  arith,
+  sum-le 9 (λ k. quadratic.weight k * v k) (λ k. quadratic.weight k * m) (λ k l. mul-le-mul_left (quadratic.weight k) (h k l)),
+  sum-mul-right 9 m quadratic.weight,
+  ap (λ w. w * m) weights-36,
+)
+
+-- an array's values are a table's
+pub table-self : {l : List ℕ} → length l ≡ 9 → l ≡ table 9 (value_of l)
+table-self {l} e = sym (table-take 9 l 0 (omega (arith, e)) ∙ ap (λ n. take n l) (sym e) ∙ take-length l)
+
+-- of a list that is a table: its values, their sum, and what is at least each
+module _ {l : List ℕ} (f : ℕ → ℕ) (e : l ≡ table 9 f) where
+  pub value_is : (k : ℕ) → k < 9 → value_of l k ≡ f k
+  value_is k h = ap (λ x. value_of x k) e ∙ get_d-table 9 f k 0 h
+
+  pub weighted_is : weighted quadratic (value_of l) ≡ weighted quadratic f
+  unfolding quadratic
+  weighted_is = weighted-cong quadratic (value_of l) f value_is
+
+  pub up-to : {m : ℕ} → ((k : ℕ) → k < 9 → f k ≤ m) → AllUpTo m l
+  up-to {m} h = record { all = λ k. rw e (table-all (λ x. x ≤ m) 9 f 0 (omega arith) h k) }
 
 -- ---- after levelling and truncation
 module _ (l : List ℤ) (s : ℤ) where
@@ -81,38 +117,24 @@ module _ (l : List ℤ) (s : ℤ) where
     unfolding quadratic
     clipped-le_size = omega (arith, weights-36, clipped-le quadratic (shifted l s) levelled_size (λ k q. omega (arith, negative-le (at l k +ℤ s), (within-add (h.all k) b).within)))
 
-    pub cut_sum-le : (n : ℕ) → n ≤ 9 → weighted_to cut_value n ≤ 36 * levelled_size
-    unfolding sum quadratic
-    cut_sum-le n q = le_trans (sum-le n (λ k. quadratic.weight k * cut_value k) bound (λ k r. mul-le-mul_left (quadratic.weight k) (cut_value-le k (omega arith)))) (sum_mono bound n 9 q)
-      where
-        bound : ℕ → ℕ
-        bound k = quadratic.weight k * levelled_size
-
-    -- of all nine
     pub cut_sum : weighted quadratic cut_value ≤ 36 * levelled_size
-    cut_sum = omega (arith, weighted_to-all cut_value, cut_sum-le 9 (omega arith))
+    cut_sum = weighted-le cut_value levelled_size cut_value-le
 
     pub sum-shifted-within : Within (36 * levelled_size) (signed_sum quadratic (shifted l s))
     sum-shifted-within = subst (Within (36 * levelled_size)) sum-shifted (within-le (within-add (sum-within l h) (within-mul (within-pos 36) b)) (omega arith))
 
--- ---- the closed values
-module _ (l : List ℤ) (s : ℤ) (t : ℕ) where
-  abbrev pub new_value : ℕ → ℕ
-  new_value = rescaled_value quadratic (cut_value l s) t
+-- ---- the closed values r: those of l, with the sum p, rescaled to t
+module _ {l r : List ℕ} {p : ℕ} (v : ℕ → ℕ) (t : ℕ) (made : l ≡ table 9 v) (summed : p ≡ weighted quadratic (value_of l)) (scaled : r ≡ table 9 (λ k. rescaled p t (value_of l k))) where
+  closed_values : r ≡ table 9 (rescaled_value quadratic v t)
+  unfolding rescaled_value
+  closed_values = scaled ∙ table-cong 9 (λ k. rescaled p t (value_of l k)) (rescaled_value quadratic v t) (λ k h. λ i. rescaled ((summed ∙ weighted_is v made) i) t (value_is v made k h i))
 
-  -- every partial sum, and every value, is at most the target
-  pub new_sum-le : (n : ℕ) → n ≤ 9 → weighted_to new_value n ≤ t
-  new_sum-le n q = omega (arith, sum_mono (λ k. quadratic.weight k * new_value k) n 9 q, weighted_to-all new_value, values-le quadratic (cut_value l s) t)
+  closed_sum : weighted quadratic (value_of r) ≡ weighted quadratic (rescaled_value quadratic v t)
+  closed_sum = weighted_is (rescaled_value quadratic v t) closed_values
 
-  pub new_value-le : (k : ℕ) → k < 9 → new_value k ≤ t
-  new_value-le k q = omega (
-    arith,
-    new_sum-le (k + 1) (omega arith),
-    sum_more k (λ k. quadratic.weight k * new_value k),
-    mul-le-mul_right (new_value k) (weights-above k q),
-    one-mul (new_value k),
-  )
+  pub closed_sum-le : weighted quadratic (value_of r) ≤ t
+  closed_sum-le = omega (arith, closed_sum, values-le quadratic v t)
 
--- a node's weight times a value after truncation fits
-pub weighted-fits : {k w x : ℕ} → k < 9 → w ≡ quadratic.weight k → x ≤ levelled_size → Fits w64 (w * x)
-weighted-fits {k} {w} {x} h e l = record { fits = omega (arith, mul-le-mul {n₁ = w} {n₂ = 16} {m₂ = levelled_size} (rw e (weight-le k h)) l) }
+  pub closed_numbers : r ++ ((t - weighted quadratic (value_of r)) ∷ []) ≡ table 9 (rescaled_value quadratic v t) ++ (closing_remainder quadratic v t ∷ [])
+  unfolding closing_remainder
+  closed_numbers = λ i. closed_values i ++ ((t - closed_sum i) ∷ [])

@@ -1,2 +1,3 @@
 -- What the leaves of the closing speak of.
 pub mod Shifted
+pub mod Values

@@ -3,15 +3,19 @@
 // `From` for it, and Rattle proves that nothing is lost, so that a `try_from` would add an unwrap that can never fail.
 #![tactic(auto)]
 
-ghost use Rattle.std.specs.Prelude.{◌≡◌, ◌*◌, ◌≤◌, ◌<◌, ◌^◌, length};
-ghost use Rattle.whole.specs.Table.{at};
+ghost use Rattle.std.specs.Prelude.{◌≡◌, ◌++◌, ◌∷◌, [], ◌*◌, ◌-◌, ◌≤◌, ◌<◌, ◌^◌, length};
+ghost use Rattle.whole.specs.Table.{at, table};
 ghost use Rattle.whole.specs.Bound.{Within, Are, AllWithin};
 ghost use Rattle.rules.specs.Field.{quadratic, weighted};
-ghost use Rattle.rules.specs.Limiter.{signed_sum, mean_shift, truncated, clipped, rescaled, closed_unlevelled, closed};
+ghost use Rattle.rules.specs.Limiter.{signed_sum, mean_shift, truncated, clipped, closed_unlevelled, closed};
 ghost use Rattle.rules.specs.Sizes.{shift_size, closing_size, levelled_size, target_size, clipped_size};
 ghost use Rattle.limiter.specs.Shifted.{shifted};
+ghost use Rattle.limiter.specs.Values.{value_of, AllUpTo};
 
 use rules::element::{NODES, node_weight, signed_weight};
+use std::array;
+
+mod scale; // scale.rt: mass aware rescaling
 
 // The sum of the nodes' weights.
 const WEIGHT_SUM: i64 = 36;
@@ -95,11 +99,12 @@ impl Raised<'_> {
         u64::try_from(self.closing.psi[k] + self.shift).unwrap_or(0)
     }
 
-    // The weighted sum P of the truncated values.
-    fn truncated_sum(self) -> u64
-        ensures { result ≡ weighted quadratic (truncated (shifted self.entry.closing.psi.now self.entry.shift)) }
+    // All nine, made once: the sum P, the rescaling and the clipped mass go by these.
+    fn values(self) -> [u64; NODES]
+        ensures value { result ≡ table 9 (truncated (shifted self.entry.closing.psi.now self.entry.shift)) }
+        ensures upper_bound { AllUpTo levelled_size result }
     {
-        (0..NODES).map(|k| node_weight(k) * self.truncated(k)).sum()
+        array::from_fn(|k| self.truncated(k))
     }
 
     // The clipped mass: P less `sum`. Truncation only adds, so that P is never below it.
@@ -119,23 +124,30 @@ impl Raised<'_> {
         ensures upper_bound { result ≤ clipped_size }
     {
         let target = self.closing.target;
-        let p = self.truncated_sum();
-        // Added by hand in the loop that writes: a chain of its own would divide for every value once more.
-        let mut sum = 0;
-        for (k, number) in part[..NODES].iter_mut().enumerate() {
-            let y = rescale(p, target, self.truncated(k));
-            *number = y as u32;
-            sum += node_weight(k) * y;
-        }
-        part[NODES] = (target - sum) as u32;
+        let values = self.values();
+        let p = weigh(&values);
+        put(part, &scale::rescaled(&values, p, target), target);
         self.clipped(p)
     }
 }
 
-// A part v of the sum p, rescaled to the target.
-pub fn rescale(p: u64, target: u64, v: u64) -> u64
-    requires { v * target < 2 ^ 64 }
-    ensures { result ≡ rescaled p target v }
+// The weighted sum of nine values.
+fn weigh(values: &[u64; NODES]) -> u64
+    requires { weighted quadratic (value_of values.now) < 2 ^ 64 }
+    ensures { result ≡ weighted quadratic (value_of values.now) }
 {
-    if p <= target { v } else { v * target / p }
+    (0..NODES).map(|k| node_weight(k) * values[k]).sum()
+}
+
+// Nine values, and what they leave of the target, as the element's ten numbers.
+fn put(part: &mut [u32], values: &[u64; NODES], target: u64)
+    requires part_len { length part.old ≡ 10 }
+    requires sum_le { weighted quadratic (value_of values.now) ≤ target }
+    requires target_bound { target ≤ target_size }
+    ensures { part.new ≡ values.now ++ ((target - weighted quadratic (value_of values.now)) ∷ []) }
+{
+    for (k, number) in part[..NODES].iter_mut().enumerate() {
+        *number = values[k] as u32;
+    }
+    part[NODES] = (target - weigh(values)) as u32;
 }

@@ -1,13 +1,14 @@
 -- The passes of a step, one after the other, are document 01's step of a tracer's part: each section of work is the rules' list, so that the
 -- report and every target are the rules'.
 use mathlib.Core.Path.{◌≡◌, sym, ap, subst, ◌∙◌}
+use mathlib.Core.Bool.{true}
 use mathlib.Core.List.{List}
 use Prim.Native.Nat.{ℕ, suc, ◌+◌, ◌*◌, ◌/◌, ◌%◌, ◌≤◌, ◌<◌}
 use native.Mathlib.Decide.{dec_lt}
 use native.Mathlib.Nat.{div-add-mod'}
 use native.Mathlib.Omega.{arith}
 use lib.Dec.{le→leb}
-use lib.IntN.{ℤ, pos, ◌+ℤ◌, ◌-ℤ◌}
+use lib.IntN.{ℤ, pos, ◌+ℤ◌, ◌-ℤ◌, ◌*ℤ◌}
 use lib.ListN.{length, get_or, replicate, get_or-eq_default}
 use lib.Signed.{non_neg, ◌≤ℤ◌}
 use Rattle.whole.specs.Bound.{Within, AllWithin}
@@ -20,7 +21,7 @@ use Rattle.whole.proofs.SumLaws.{sum-cong}
 use Rattle.whole.proofs.TableLaws.{length-table, get_d-table, table-all, table-cong, blocks-cong}
 use Rattle.whole.proofs.WholeLaws.{positive-pos, abs-parts}
 use Rattle.rules.specs.declared.Shape.{Shape}
-use Rattle.rules.specs.Field.{quadratic, elements, faces, north_face, element_length, elements_length, part_length, stored_total, part_of, cell, remainder, mass, total, limit, Admitted}
+use Rattle.rules.specs.Field.{quadratic, elements, faces, north_face, element_length, elements_length, part_length, stored_total, part_of, cell, remainder, mass, total, sound, limit, Admitted}
 use Rattle.rules.specs.Grid.{west, south, behind, ahead}
 use Rattle.rules.specs.Stages.{Stages, stages, stage0, flux}
 use Rattle.rules.specs.Limiter.{closed}
@@ -28,7 +29,8 @@ use Rattle.rules.specs.Correction.{donor, outflow, cut, limited_flux, target}
 use Rattle.rules.specs.HeldFlux.{rises, with_held_flux}
 use Rattle.rules.specs.Step.{fluxes, report, closed_element}
 use Rattle.rules.specs.Calls.{wind_at}
-use Rattle.rules.specs.Sizes.{flux_size, outflow_size, stage_1_size, stage_size, combined_size, earlier_sum_size, tentative_size, rise_size}
+use Rattle.rules.specs.Sizes.{flux_size, outflow_size, stage_size, earlier_sum_size, sum_size, tentative_size, rise_size}
+use Rattle.rules.proofs.FieldLaws.{summed}
 use Rattle.rules.proofs.CorrectionLaws.{outflow-local}
 use Rattle.rules.proofs.GridLaws.{behind-lt, ahead-lt}
 use Rattle.rules.proofs.PartLaws.{value-le-mass, mass-le-total}
@@ -40,10 +42,11 @@ use Rattle.rules.proofs.StepLaws.{report-length, report-le, goal-above}
 use Rattle.field_layout.proofs.PlaceLaws.{elements-are, part-is}
 use Rattle.step_upwind.specs.Upwind.{stage_length, listed, as_stage, WindsInRange}
 use Rattle.step_upwind.proofs.ListedLaws.{listed-at, listed-within}
-use Rattle.step_stages.specs.Advance.{new_sums, new_values}
-use Rattle.step_stages.proofs.StagesLaws.{stage_list, sums_list, first-stage, first-sums, next-sums, next-stage, stage-small, stored-small, stage-1-small, sums-small}
-use Rattle.step_fluxes.specs.Face.{combined, face_flux}
-use Rattle.step_fluxes.proofs.FluxLaws.{combined_list, combined-is, combined-small, fluxes-are}
+use Rattle.step_stages.specs.Passes.{factor, new_value, new_sums}
+use Rattle.step_stages.proofs.StagesLaws.{stage_list, sums_list, first-stage, first-sums, next-sums, next-stage, stage-small, sums-small}
+use Rattle.step_stages.proofs.Laws.{new_sums-small}
+use Rattle.step_fluxes.specs.Amount.{amount_size, stage_amount, rounded}
+use Rattle.step_fluxes.proofs.FluxLaws.{amounts_list, first-amounts, next-amounts, amounts-small, fluxes-are}
 use Rattle.step_correction.proofs.HeldLaws.{six}
 use Rattle.step_correction.specs.Amounts.{NotNegative, Amounts, limited_face}
 use Rattle.step.specs.Finish.{Balance, Values, mass_of, closed_lent}
@@ -58,6 +61,11 @@ pub record Given (g : Shape) (wind : List ℤ) (p : List ℕ) : Type 0 where
   pub numbers : length p ≡ part_length quadratic g
   pub within-limit : total quadratic g p ≤ limit
   pub stored-within : stored_total quadratic g p ≤ limit
+
+pub given-of : {g : Shape} {wind : List ℤ} {p : List ℕ} → Admitted g → WindsInRange g wind → length p ≡ part_length quadratic g → sound quadratic g p ≡ true → Given g wind p
+given-of {g} {wind} {p} admits winds numbers h =
+    let s = summed quadratic g p (rw h tt) in
+    record { admits = admits; winds = winds; numbers = numbers; within-limit = s.0; stored-within = omega (arith, s.0, s.1) }
 
 module _ {g : Shape} {wind : List ℤ} {p : List ℕ} (given : Given g wind p) where
   abbrev c : ℕ → ℤ
@@ -117,50 +125,42 @@ module _ {g : Shape} {wind : List ℤ} {p : List ℕ} (given : Given g wind p) w
   pub phi-small : (m : ℕ) → m < 3 → AllWithin stage_size (phi m)
   phi-small = stage-small g c p admits given.winds.small number_small
 
-  pub phi1-small : AllWithin stage_1_size (phi 1)
-  phi1-small = stage-1-small g c p admits given.winds.small number_small
-
-  pub phi0-small : AllWithin limit (phi 0)
-  phi0-small = stored-small g c p admits given.winds.small number_small
-
   pub earlier-small : (m : ℕ) → m < 3 → AllWithin earlier_sum_size (sums m)
   earlier-small = sums-small g c p admits given.winds.small number_small
 
   pub psi-small : AllWithin tentative_size (phi 3)
   psi-small = listed-within (elements g) s.ψ (λ e k le lk. within-le (ψ-within quadratic quadratic-bounded g hx hy c given.winds.small p limit number_small e k) (omega arith))
 
+  -- the sums with those of stage m, and the sums of the faces
+  pub with-small : (m : ℕ) → m < 3 → AllWithin sum_size (sums (suc m))
+  with-small m l = subst (AllWithin sum_size) (next-sums g c p admits m l) (new_sums-small g wind (phi m) admits given.winds (phi-small m l) m (sums m) l (earlier-small m l))
+
+  abbrev pub face_sums : ℕ → List ℤ
+  face_sums = amounts_list g c p
+
+  pub face_sums-small : (m : ℕ) → m ≤ 3 → AllWithin amount_size (face_sums m)
+  face_sums-small = amounts-small g c p admits given.winds.small number_small
+
   pub stored : {first : List ℤ} → first ≡ listed (stage_length g) (stage0 quadratic p) → first ≡ phi 0
   stored e = e ∙ first-stage g c p
 
-  pub zeroed : {n : ℕ} {before : List ℤ} → n ≡ stage_length g → before ≡ replicate n (pos 0) → before ≡ sums 0
-  zeroed en e = e ∙ ap (λ n. replicate n (pos 0)) en ∙ first-sums g c p
+  pub zero_sums : {n : ℕ} {before : List ℤ} → n ≡ stage_length g → before ≡ replicate n (pos 0) → before ≡ sums 0
+  zero_sums en e = e ∙ ap (λ n. replicate n (pos 0)) en ∙ first-sums g c p
 
-  pub advanced : (m : ℕ) {first before from next after : List ℤ} → m < 3 → first ≡ phi 0 → before ≡ sums m → from ≡ phi m → after ≡ listed (stage_length g) (new_sums g c m before from)
-      → next ≡ listed (stage_length g) (new_values g c m first before from) → (next ≡ phi (suc m)) × (after ≡ sums (suc m))
-  advanced m l ef eb em ea en = (
-    en ∙ (λ i. listed (stage_length g) (new_values g c m (ef i) (eb i) (em i))) ∙ next-stage g c p admits m l,
-    ea ∙ (λ i. listed (stage_length g) (new_sums g c m (eb i) (em i))) ∙ next-sums g c p admits m l,
-  )
+  pub zero_face_sums : {n : ℕ} {before : List ℤ} → n ≡ faces g → before ≡ replicate n (pos 0) → before ≡ face_sums 0
+  zero_face_sums en e = e ∙ ap (λ n. replicate n (pos 0)) en ∙ first-amounts g c p
 
-  -- after one pass, and after two
-  pub passed-1 : {k : ℕ} {first zeros next after : List ℤ} → first ≡ listed (stage_length g) (stage0 quadratic p) → k ≡ stage_length g → zeros ≡ replicate k (pos 0)
-      → after ≡ listed (stage_length g) (new_sums g c 0 zeros first) → next ≡ listed (stage_length g) (new_values g c 0 first zeros first) → (first ≡ phi 0) × ((next ≡ phi 1) × (after ≡ sums 1))
-  passed-1 ef ek ez ea ex = let f = stored ef in (f, advanced 0 (omega arith) f (zeroed ek ez) f ea ex)
+  -- a pass, of stage k
+  pub added : (m : ℕ) {k : ℕ} {stage before after : List ℤ} → m < 3 → k ≡ m → stage ≡ phi m → before ≡ sums m → after ≡ listed (stage_length g) (new_sums g c k before stage) → after ≡ sums (suc m)
+  added m l ek es eb h = h ∙ (λ i. listed (stage_length g) (new_sums g c (ek i) (eb i) (es i))) ∙ next-sums g c p admits m l
 
-  pub passed-2 : {first next after next' after' : List ℤ} → (first ≡ phi 0) × ((next ≡ phi 1) × (after ≡ sums 1)) → after' ≡ listed (stage_length g) (new_sums g c 1 after next)
-      → next' ≡ listed (stage_length g) (new_values g c 1 first after next) → (first ≡ phi 0) × ((next ≡ phi 1) × ((next' ≡ phi 2) × (after' ≡ sums 2)))
-  passed-2 q ea ex = (q.0, (q.1.0, advanced 1 (omega arith) q.0 q.1.1 q.1.0 ea ex))
+  pub face-added : (m : ℕ) {k : ℕ} {stage before after : List ℤ} → k ≡ m → stage ≡ phi m → before ≡ face_sums m → after ≡ table (faces g) (λ f. at before f +ℤ pos (factor k) *ℤ stage_amount g c (as_stage stage) f) → after ≡ face_sums (suc m)
+  face-added m ek es eb h = h ∙ (λ i. table (faces g) (λ f. at (eb i) f +ℤ pos (factor (ek i)) *ℤ stage_amount g c (as_stage (es i)) f)) ∙ next-amounts g c p admits m
+
+  pub advanced : (m : ℕ) {k : ℕ} {after next : List ℤ} → m < 3 → k ≡ m → after ≡ sums (suc m) → next ≡ listed (stage_length g) (λ e n. new_value k (stage0 quadratic p e n) (as_stage after e n)) → next ≡ phi (suc m)
+  advanced m l ek ea h = h ∙ (λ i. listed (stage_length g) (λ e n. new_value (ek i) (stage0 quadratic p e n) (as_stage (ea i) e n))) ∙ next-stage g c p m l
 
   -- ---- the fluxes
-  abbrev pub together : List ℤ
-  together = combined_list g c p
-
-  pub together-small : AllWithin combined_size together
-  together-small = combined-small g c p phi0-small phi1-small (phi-small 2 (omega arith))
-
-  pub put_together : (n : ℕ) {a b d values : List ℤ} → n ≡ stage_length g → a ≡ phi 0 → b ≡ phi 1 → d ≡ phi 2 → values ≡ table n (λ i. combined (at a i) (at b i) (at d i)) → values ≡ together
-  put_together n en ea eb ed h = h ∙ (λ j. table (en j) (λ i. combined (at (ea j) i) (at (eb j) i) (at (ed j) i))) ∙ combined-is g c p
-
   abbrev pub flux_list : List ℤ
   flux_list = fluxes quadratic g c s
 
@@ -171,9 +171,9 @@ module _ {g : Shape} {wind : List ℤ} {p : List ℕ} (given : Given g wind p) w
   unfolding fluxes
   flux-length = length-table (faces g) _
 
-  pub fluxed : {values made : List ℤ} → values ≡ together → made ≡ table (faces g) (face_flux g c values) → made ≡ flux_list
+  pub fluxed : {n : ℕ} {before made : List ℤ} → n ≡ faces g → before ≡ face_sums 3 → made ≡ table n (λ f. rounded (at before f)) → made ≡ flux_list
   unfolding fluxes
-  fluxed e h = h ∙ ap (λ v. table (faces g) (face_flux g c v)) e ∙ fluxes-are g c p admits
+  fluxed en e h = h ∙ (λ i. table (en i) (λ f. rounded (at (e i) f))) ∙ fluxes-are g c p
 
   G-small : (f : ℕ) → Within flux_size (G f)
   unfolding fluxes

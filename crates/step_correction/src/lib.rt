@@ -2,7 +2,7 @@
 // Every function here is a leaf: what is lent has its length, and its numbers are as small as a step makes them.
 #![tactic(auto)]
 
-ghost use Rattle.std.specs.Prelude.{◌≡◌, cond, ℕ, ◌*◌, ◌≤◌, ◌<◌, pos, length};
+ghost use Rattle.std.specs.Prelude.{◌≡◌, cond, ℕ, ◌+◌, ◌*◌, ◌≤◌, ◌<◌, pos, length};
 ghost use Rattle.std.specs.Int.Signed.{non_neg};
 ghost use Rattle.whole.specs.Table.{table, at};
 ghost use Rattle.whole.specs.Bound.{Within, Are, AllWithin};
@@ -16,7 +16,7 @@ ghost use Rattle.step_correction.specs.Amounts.{NotNegative, Amounts, limited_fa
 use field_elements::element;
 use field_layout::Grid;
 use rules::element::NUMBERS;
-use step_grid::{Element, Face};
+use step_grid::{Element, Face, Row};
 
 pub mod held; // held.rt: what is held back
 
@@ -48,15 +48,31 @@ fn outflow(fluxes: &[i64], element: Element) -> i64
     along + across
 }
 
-// The outflows of all elements.
+// The outflows of the elements of a row.
+fn row_outflows(outflows: &mut [i64], fluxes: &[i64], row: Row)
+    requires outflows_len { length outflows.old ≡ row.grid.shape.nx }
+    requires fluxes_len { length fluxes.now ≡ faces row.grid.shape }
+    requires all_within { AllWithin flux_size fluxes.now }
+    requires row { row.index < row.grid.shape.ny }
+    ensures { outflows.new ≡ table row.grid.shape.nx (λ i. pos (outflow row.grid.shape (donor row.grid.shape (at fluxes.now)) (at fluxes.now) (row.index * row.grid.shape.nx + i))) }
+{
+    for (column, out) in outflows.iter_mut().enumerate() {
+        *out = outflow(fluxes, row.element(column));
+    }
+}
+
+// The outflows of all elements, row by row: an element of a row finds its neighbours by its column, without a division.
 pub fn outflows(outflows: &mut [i64], fluxes: &[i64], grid: Grid)
     requires outflows_len { length outflows.old ≡ elements grid.shape }
     requires fluxes_len { length fluxes.now ≡ faces grid.shape }
     requires all_within { AllWithin flux_size fluxes.now }
     ensures { outflows.new ≡ table (elements grid.shape) (λ e. pos (outflow grid.shape (donor grid.shape (at fluxes.now)) (at fluxes.now) e)) }
 {
-    for (index, out) in outflows.iter_mut().enumerate() {
-        *out = outflow(fluxes, Element { grid, index });
+    for index in 0..grid.shape.ny {
+        let row = Row { grid, index };
+        let start = row.start();
+        let end = start + grid.shape.nx;
+        row_outflows(&mut outflows[start..end], fluxes, row);
     }
 }
 
@@ -103,13 +119,27 @@ fn limited(fluxes: &[i64], outflows: &[i64], masses: &[i64], face: Face) -> i64
     cut(flux, outflows[d], masses[d])
 }
 
-// The limited fluxes of all faces, the face report.
+// The limited fluxes of the faces of a row.
+fn row_limit(report: &mut [i32], fluxes: &[i64], outflows: &[i64], masses: &[i64], row: Row)
+    requires report_len { length report.old ≡ row.grid.shape.nx }
+    requires amounts { Amounts row.grid.shape fluxes.now outflows.now masses.now }
+    ensures { report.new ≡ table row.grid.shape.nx (λ i. limited_face row.grid.shape fluxes.now outflows.now masses.now (row.index * row.grid.shape.nx + i)) }
+{
+    for (column, flux) in report.iter_mut().enumerate() {
+        *flux = limited(fluxes, outflows, masses, row.face(column)) as i32; // std has no `From` for it; a cut flux is within the limit
+    }
+}
+
+// The limited fluxes of all faces, the face report, row by row.
 pub fn limit(report: &mut [i32], fluxes: &[i64], outflows: &[i64], masses: &[i64], grid: Grid)
     requires report_len { length report.old ≡ faces grid.shape }
     requires amounts { Amounts grid.shape fluxes.now outflows.now masses.now }
     ensures { report.new ≡ table (faces grid.shape) (limited_face grid.shape fluxes.now outflows.now masses.now) }
 {
-    for (index, flux) in report.iter_mut().enumerate() {
-        *flux = limited(fluxes, outflows, masses, Face { grid, index }) as i32; // std has no `From` for it; a cut flux is within the limit
+    for index in 0..2 * grid.shape.ny {
+        let row = Row { grid, index };
+        let start = row.start();
+        let end = start + grid.shape.nx;
+        row_limit(&mut report[start..end], fluxes, outflows, masses, row);
     }
 }

@@ -1,2 +1,2 @@
 -- What the fluxes' leaves ask and answer.
-pub mod Face
+pub mod Amount

@@ -4,8 +4,8 @@ use Prim.Native.Nat.{ℕ, ◌-◌, ◌≤◌, ◌<◌}
 use native.Mathlib.Omega.{arith}
 use Rattle.rules.specs.declared.Shape.{Shape}
 use Rattle.rules.specs.Field.{elements, north_face}
-use Rattle.rules.specs.Grid.{west, east, south, north, behind, ahead}
-use Rattle.rules.proofs.GridLaws.{west-lt, east-lt, south-lt, north-lt, behind-north, ahead-north}
+use Rattle.rules.specs.Grid.{west, south, north, behind, ahead}
+use Rattle.rules.proofs.GridLaws.{west-lt, south-lt, behind-north, ahead-north}
 use Rattle.rules.proofs.ShapeLaws.{elements-le}
 use Rattle.step_grid.specs.Place.{Placed, side_faces, OnGrid}
 use Rattle.step_grid.specs.declared.Element.{Element}
@@ -16,17 +16,11 @@ pub placed : (x : Element) → Placed x.grid.shape x.index
 placed x = record { admits = x.grid.admitted; inside = x.inside }
 
 module _ {g : Shape} {e : ℕ} (h : Placed g e) where
-  pub west-in : west g e < elements g
+  west-in : west g e < elements g
   west-in = west-lt g h.admits.nx-above h.admits.ny-above e h.inside
-
-  pub east-in : east g e < elements g
-  east-in = east-lt g h.admits.nx-above h.admits.ny-above e h.inside
 
   pub south-in : south g e < elements g
   south-in = south-lt g h.admits.nx-above h.admits.ny-above e h.inside
-
-  pub north-in : north g e < elements g
-  north-in = north-lt g h.admits.nx-above h.admits.ny-above e h.inside
 
 -- an element's faces are on the grid
 pub sides-in : (x : Element) → OnGrid x.grid.shape (side_faces x.grid.shape x.index)

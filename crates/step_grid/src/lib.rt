@@ -1,19 +1,66 @@
-// An element and a face of the periodic grid, by their numbers, and what lies beside them. The methods are leaves.
+// A row of the periodic grid, an element and a face in it, by their numbers, and what lies beside them. The methods are leaves.
 #![tactic(auto)]
 
-ghost use Rattle.std.specs.Prelude.{◌≡◌, ◌<◌};
+ghost use Rattle.std.specs.Prelude.{◌≡◌, ◌+◌, ◌*◌, ◌%◌, ◌<◌};
 ghost use Rattle.rules.specs.Field.{elements, faces};
 ghost use Rattle.rules.specs.Grid.{west, east, south, north, looks_east, behind, ahead};
 ghost use Rattle.step_grid.specs.Place.{side_faces, OnGrid};
 
 use field_layout::Grid;
 
-// An element that is on its grid.
+// A row that is on its grid: nx elements, or nx faces. The elements' rows go from south to north; of the faces' rows those of the east faces come first,
+// then those of the north faces, twice as many rows in all.
+#[derive(Clone, Copy)]
+pub struct Row {
+    pub grid: Grid,
+    pub index: usize,
+    ghost inside: { index < 2 * grid.shape.ny },
+}
+
+impl Row {
+    // The number of its first element or face.
+    pub fn start(self) -> usize
+        ensures { result ≡ self.index * self.grid.shape.nx }
+    {
+        self.index * self.grid.shape.nx
+    }
+
+    // Its element in a column.
+    pub fn element(self, column: usize) -> Element
+        requires row { self.index < self.grid.shape.ny }
+        requires column { column < self.grid.shape.nx }
+        ensures grid { result.grid ≡ self.grid }
+        ensures place { result.index ≡ self.index * self.grid.shape.nx + column }
+    {
+        Element {
+            grid: self.grid,
+            index: self.start() + column,
+            column,
+        }
+    }
+
+    // Its face in a column.
+    pub fn face(self, column: usize) -> Face
+        requires { column < self.grid.shape.nx }
+        ensures grid { result.grid ≡ self.grid }
+        ensures place { result.index ≡ self.index * self.grid.shape.nx + column }
+    {
+        Face {
+            grid: self.grid,
+            index: self.start() + column,
+            column,
+        }
+    }
+}
+
+// An element that is on its grid. Its column tells the ends of its row without a division.
 #[derive(Clone, Copy)]
 pub struct Element {
     pub grid: Grid,
     pub index: usize,
+    pub column: usize,
     ghost inside: { index < elements grid.shape },
+    ghost column_is: { column ≡ index % grid.shape.nx },
 }
 
 impl Element {
@@ -23,7 +70,7 @@ impl Element {
     {
         let nx = self.grid.shape.nx;
         let e = self.index;
-        if e % nx == 0 { e + nx - 1 } else { e - 1 }
+        if self.column == 0 { e + nx - 1 } else { e - 1 }
     }
 
     // The element to the east; the last of a row has the row's first there.
@@ -32,7 +79,11 @@ impl Element {
     {
         let nx = self.grid.shape.nx;
         let e = self.index;
-        if e % nx + 1 == nx { e + 1 - nx } else { e + 1 }
+        if self.column + 1 == nx {
+            e + 1 - nx
+        } else {
+            e + 1
+        }
     }
 
     // The element to the south; the first row has the last one there.
@@ -70,7 +121,9 @@ impl Element {
 pub struct Face {
     pub grid: Grid,
     pub index: usize,
+    pub column: usize,
     ghost inside: { index < faces grid.shape },
+    ghost column_is: { column ≡ index % grid.shape.nx },
 }
 
 impl Face {
@@ -86,17 +139,23 @@ impl Face {
         ensures behind { result.0 ≡ behind self.grid.shape self.index }
         ensures ahead { result.1 ≡ ahead self.grid.shape self.index }
     {
-        let grid = self.grid;
+        let Face {
+            grid,
+            index,
+            column,
+        } = self;
         if self.looks_east() {
             let owner = Element {
                 grid,
-                index: self.index,
+                index,
+                column,
             };
-            (owner.index, owner.east())
+            (index, owner.east())
         } else {
             let owner = Element {
                 grid,
-                index: self.index - grid.elements(),
+                index: index - grid.elements(),
+                column,
             };
             (owner.index, owner.north())
         }

@@ -18,7 +18,7 @@ use Rattle.rules.specs.Sizes.{earlier_sum_size, stage_1_size, stage_size}
 use Rattle.step_upwind.specs.Upwind.{stage_length, listed, as_stage}
 use Rattle.step_upwind.proofs.ListedLaws.{listed-at, listed-cong, listed-within}
 use Rattle.step_upwind.proofs.TendencyLaws.{tendency-cong}
-use Rattle.step_stages.specs.Advance.{new_sum, new_value, new_sums, new_values}
+use Rattle.step_stages.specs.Passes.{new_sum, new_value, new_sums}
 use Rattle.step_stages.proofs.Laws.{floor-one}
 
 -- ---- the stages, their tendencies and the sums of these, by number
@@ -36,6 +36,17 @@ tendency_of s (suc (suc m)) = s.t2
 abbrev pub sum_of : Stages → ℕ → ℕ → ℕ → ℤ
 sum_of s zero e k = pos 0
 sum_of s (suc m) e k = new_sum m (sum_of s m e k) (tendency_of s m e k)
+
+-- how large the values of stage m are
+abbrev pub bound_of : ℕ → ℕ
+bound_of zero = limit
+bound_of (suc zero) = stage_1_size
+bound_of (suc (suc m)) = stage_size
+
+bound-le : (m : ℕ) → bound_of m ≤ stage_size
+bound-le zero = omega arith
+bound-le (suc zero) = omega arith
+bound-le (suc (suc m)) = omega arith
 
 once : (z : ℤ) → pos 1 *ℤ z ≡ z
 once (pos a) = ap pos (one-mul a)
@@ -55,7 +66,7 @@ module _ (g : Shape) (c : ℕ → ℤ) (p : List ℕ) where
   sum-3 e k = ap (λ x. x +ℤ pos 4 *ℤ s.t2 e k) (sum-2 e k)
 
   -- document 01's φ1, φ2 and ψ
-  pub next-is : (m e k : ℕ) → m < 3 → new_value m (s.φ0 e k) (sum_of s (suc m) e k) ≡ stage_of s (suc m) e k
+  next-is : (m e k : ℕ) → m < 3 → new_value m (s.φ0 e k) (sum_of s (suc m) e k) ≡ stage_of s (suc m) e k
   unfolding stages stage1 stage2 tentative
   next-is zero e k h = ap (λ x. s.φ0 e k +ℤ x) (floor-one (sum_of s 1 e k) ∙ sum-1 e k)
   next-is (suc zero) e k h = ap (λ x. s.φ0 e k +ℤ floor_div x 4) (sum-2 e k)
@@ -97,15 +108,17 @@ module _ (g : Shape) (c : ℕ → ℤ) (p : List ℕ) where
     pub next-sums : listed (stage_length g) (new_sums g c m (sums_list m) (stage_list m)) ≡ sums_list (suc m)
     next-sums = listed-cong (elements g) _ _ sum-next
 
-    pub next-stage : listed (stage_length g) (new_values g c m (stage_list 0) (sums_list m) (stage_list m)) ≡ stage_list (suc m)
-    next-stage = listed-cong (elements g) _ _ (λ e k le lk. ap₂ (new_value m) (listed-at (elements g) (stage_of s 0) e k le lk) (sum-next e k le lk) ∙ next-is m e k lm)
+  -- the next values, from the stored ones and the sums
+  pub next-stage : (m : ℕ) → m < 3 → listed (stage_length g) (λ e k. new_value m (stage0 quadratic p e k) (as_stage (sums_list (suc m)) e k)) ≡ stage_list (suc m)
+  unfolding stages
+  next-stage m lm = listed-cong (elements g) _ _ (λ e k le lk. ap (new_value m (s.φ0 e k)) (listed-at (elements g) (sum_of s (suc m)) e k le lk) ∙ next-is m e k lm)
 
   -- ---- sizes: every stored value is at most the limit, every wind in its range
   module _ (admits : Admitted g) (wind-range : (f : ℕ) → f < faces g → Within 1024 (c f)) (small : (i : ℕ) → get_or p i 0 ≤ limit) where
-    stage-within : (m e k : ℕ) → m < 3 → Within stage_size (stage_of s m e k)
-    stage-within zero e k h = within-le (φ0-within quadratic quadratic-bounded g admits.nx-above admits.ny-above c wind-range p limit small e k) (omega arith)
-    stage-within (suc zero) e k h = within-le (φ1-within quadratic quadratic-bounded g admits.nx-above admits.ny-above c wind-range p limit small e k) (omega arith)
-    stage-within (suc (suc zero)) e k h = within-le (φ2-within quadratic quadratic-bounded g admits.nx-above admits.ny-above c wind-range p limit small e k) (omega arith)
+    pub stage-within : (m e k : ℕ) → m < 3 → Within (bound_of m) (stage_of s m e k)
+    stage-within zero e k h = φ0-within quadratic quadratic-bounded g admits.nx-above admits.ny-above c wind-range p limit small e k
+    stage-within (suc zero) e k h = φ1-within quadratic quadratic-bounded g admits.nx-above admits.ny-above c wind-range p limit small e k
+    stage-within (suc (suc zero)) e k h = φ2-within quadratic quadratic-bounded g admits.nx-above admits.ny-above c wind-range p limit small e k
     stage-within (suc (suc (suc m))) e k h = let f : ⊥ = omega arith in absurd f
 
     t0-small : (e k : ℕ) → Within (7 * limit) (s.t0 e k)
@@ -121,14 +134,7 @@ module _ (g : Shape) (c : ℕ → ℤ) (p : List ℕ) where
     sum-within (suc (suc (suc m))) e k h = let f : ⊥ = omega arith in absurd f
 
     pub stage-small : (m : ℕ) → m < 3 → AllWithin stage_size (stage_list m)
-    stage-small m h = listed-within (elements g) (stage_of s m) (λ e k _ _. stage-within m e k h)
-
-    -- stages 0 and 1 are smaller than that
-    pub stored-small : AllWithin limit (stage_list 0)
-    stored-small = listed-within (elements g) (stage_of s 0) (λ e k _ _. φ0-within quadratic quadratic-bounded g admits.nx-above admits.ny-above c wind-range p limit small e k)
-
-    pub stage-1-small : AllWithin stage_1_size (stage_list 1)
-    stage-1-small = listed-within (elements g) (stage_of s 1) (λ e k _ _. φ1-within quadratic quadratic-bounded g admits.nx-above admits.ny-above c wind-range p limit small e k)
+    stage-small m h = listed-within (elements g) (stage_of s m) (λ e k _ _. within-le (stage-within m e k h) (bound-le m))
 
     pub sums-small : (m : ℕ) → m < 3 → AllWithin earlier_sum_size (sums_list m)
     sums-small m h = listed-within (elements g) (sum_of s m) (λ e k _ _. sum-within m e k h)

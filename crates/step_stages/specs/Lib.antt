@@ -1,2 +1,2 @@
 -- What the stages' leaves ask and answer.
-pub mod Advance
+pub mod Passes

@@ -1,7 +1,7 @@
 -- What a line of nodes brings to the tendency is document 01's X (or Y) without the factors that the tendency divides away, and the tendency made of
 -- the lines is the rules': each place of a line by one linear equation of whole numbers, the rest by congruence.
-use mathlib.Core.Path.{◌≡◌, refl, sym, ap, ap₂, ◌∙◌}
-use mathlib.Core.List.{List, [], ◌∷◌}
+use mathlib.Core.Path.{◌≡◌, sym, ap, ap₂, ◌∙◌}
+use mathlib.Core.List.{[], ◌∷◌}
 use Prim.Native.Nat.{ℕ, zero, suc, ◌+◌, ◌*◌, ◌/◌, ◌%◌, ◌<◌}
 use native.Mathlib.Nat.{mul_comm}
 use native.Mathlib.Omega.{arith}
@@ -13,10 +13,10 @@ use Rattle.whole.specs.Sum.{sum_ℤ}
 use Rattle.whole.specs.Table.{table, at}
 use Rattle.whole.proofs.BoundLaws.{within-le, within-pos}
 use Rattle.whole.proofs.ProductLaws.{product_assoc, sum-product, product-sum, floor-common}
-use Rattle.whole.proofs.TableLaws.{get_d-table, table-cong}
+use Rattle.whole.proofs.TableLaws.{get_d-table}
 use Rattle.rules.specs.Field.{quadratic}
 use Rattle.rules.specs.Stages.{node, place_wind, advection}
-use Rattle.step_tendency.specs.Line.{place_sums, line_tendency, way_line, node_tendency, local_tendency}
+use Rattle.step_tendency.specs.Line.{place_sums, line_tendency, way_line, element_tendency, local_tendency}
 
 -- ---- three numbers as a list: each is another's, each is within n
 pub three-same : {a b d a' b' d' : ℤ} → a ≡ a' → b ≡ b' → d ≡ d' → a ∷ b ∷ d ∷ [] ≡ a' ∷ b' ∷ d' ∷ []
@@ -58,7 +58,7 @@ module _ (φ : ℕ → ℤ) (cw ce uw ue : ℤ) where
   middle-is : cw *ℤ φ 1 +ℤ ce *ℤ φ 1 ≡ (cw +ℤ ce) *ℤ φ 1
   middle-is = sym (sum-product cw ce (φ 1))
 
-  line-is : (a : ℕ) → a < 3 → advection quadratic φ cw ce uw ue a ≡ pos (2 * quadratic.line_weight a) *ℤ at (line_tendency φ cw ce uw ue) a
+  line-is : (a : ℕ) → a < 3 → advection quadratic φ cw ce uw ue a ≡ pos (2 * quadratic.line_weight a) *ℤ at (line_tendency φ cw ce (cw *ℤ uw) (ce *ℤ ue)) a
   unfolding advection place_wind quadratic sum_ℤ line_tendency place_sums
   line-is zero h =
       (λ i. pos 0 +ℤ term-is 1 2 0 (φ 0) i *ℤ negsuc 2 +ℤ term-is 4 1 1 (φ 1) i *ℤ negsuc 0 +ℤ term-is 1 0 2 (φ 2) i *ℤ pos 1 -ℤ pos 0 +ℤ product_assoc (pos 12) cw uw i)
@@ -82,39 +82,33 @@ both-shares ωa ωb x y =
     ap₂ (λ p q. p +ℤ q) (sym (product_assoc (pos ωb) (pos (2 * ωa)) x)) (sym (product_assoc (pos ωa) (pos (2 * ωb)) y))
     ∙ (λ i. pos (ex i) *ℤ x +ℤ pos (ey i) *ℤ y) ∙ sym (product-sum (pos (2 * (ωa * ωb))) x y)
 
-module _ (v c u : ℕ → ℤ) where
-  -- X (or Y) at place a of line b, as the lines that go one way have it: φ, uw and ue are what the rules read there
-  place-is : (cw ce : ℤ) (side step stride b a : ℕ) (φ : ℕ → ℤ) (uw ue : ℤ) → a < 3 → b < 3
-      → ((q : ℕ) → v (step * b + stride * q) ≡ φ q) → u (side + b) ≡ uw → u (side + 3 + b) ≡ ue
-      → pos (2 * quadratic.line_weight a) *ℤ at (get_or (table 3 (way_line v u cw ce side step stride)) b []) a ≡ advection quadratic φ cw ce uw ue a
-  place-is cw ce side step stride b a φ uw ue ha hb values first last =
-      ap (λ l. pos (2 * quadratic.line_weight a) *ℤ at l a) (get_d-table 3 (way_line v u cw ce side step stride) b [] hb)
-      ∙ sym (line-is (λ q. v (step * b + stride * q)) cw ce (u (side + b)) (u (side + 3 + b)) a ha)
-      ∙ (λ i. advection quadratic (λ q. values q i) cw ce (first i) (last i) a)
+-- X (or Y) at place a of line b, as the lines that go one way have it: φ, uw and ue are what the rules read there
+place-is : (v pw pe : ℕ → ℤ) (cw ce : ℤ) (step stride b a : ℕ) (φ : ℕ → ℤ) (uw ue : ℤ) → a < 3 → b < 3
+    → ((q : ℕ) → v (step * b + stride * q) ≡ φ q) → pw b ≡ cw *ℤ uw → pe b ≡ ce *ℤ ue
+    → pos (2 * quadratic.line_weight a) *ℤ at (get_or (table 3 (way_line v pw pe cw ce step stride)) b []) a ≡ advection quadratic φ cw ce uw ue a
+place-is v pw pe cw ce step stride b a φ uw ue ha hb values first last =
+    ap (λ l. pos (2 * quadratic.line_weight a) *ℤ at l a) (get_d-table 3 (way_line v pw pe cw ce step stride) b [] hb)
+    ∙ (λ i. pos (2 * quadratic.line_weight a) *ℤ at (line_tendency (λ q. values q i) cw ce (first i) (last i)) a)
+    ∙ sym (line-is φ cw ce uw ue a ha)
 
-  -- the lines that go east, and those that go north
-  abbrev pub eastward : List (List ℤ)
-  eastward = table 3 (way_line v u (c 0) (c 1) 0 3 1)
-
-  abbrev pub northward : List (List ℤ)
-  northward = table 3 (way_line v u (c 2) (c 3) 6 1 3)
-
-  node_tendency-is : (k : ℕ) → k < 9 → node_tendency eastward northward k ≡ local_tendency v c u k
-  unfolding local_tendency quadratic
-  node_tendency-is k h =
-      let a = k % 3 in
-      let b = k / 3 in
-      let ωa = quadratic.line_weight a in
-      let ωb = quadratic.line_weight b in
-      let ha : a < 3 = omega arith in
-      let hb : b < 3 = omega arith in
-      let above : 0 < 2 * (ωa * ωb) = omega arith in
-      let d : 2 * (ωa * ωb) * 4096 ≡ 8192 * (ωa * ωb) = omega arith in
-      let x = place-is (c 0) (c 1) 0 3 1 b a (λ q. v (node quadratic q b)) (u b) (u (3 + b)) ha hb (λ q. ap v (omega arith)) (ap u (omega arith)) refl in
-      let y = place-is (c 2) (c 3) 6 1 3 a b (λ q. v (node quadratic a q)) (u (6 + a)) (u (9 + a)) hb ha (λ q. ap v (omega arith)) refl refl in
-      sym (floor-common (2 * (ωa * ωb)) 4096 (at (get_or eastward b []) a +ℤ at (get_or northward a []) b) above)
-      ∙ (λ i. floor_div (sym (both-shares ωa ωb (at (get_or eastward b []) a) (at (get_or northward a []) b)) i) (d i))
-      ∙ (λ i. floor_div (pos ωb *ℤ x i +ℤ pos ωa *ℤ y i) (8192 * (ωa * ωb)))
-
-  pub all-node_tendencies : table 9 (node_tendency eastward northward) ≡ table 9 (local_tendency v c u)
-  all-node_tendencies = table-cong 9 _ _ node_tendency-is
+-- where each face's products are those of its wind and its upwind values, the tendency made of them is the rules'
+pub element_tendency-is : (v c u pw pe ps pn : ℕ → ℤ) → ((b : ℕ) → b < 3 → pw b ≡ c 0 *ℤ u b) → ((b : ℕ) → b < 3 → pe b ≡ c 1 *ℤ u (3 + b))
+    → ((a : ℕ) → a < 3 → ps a ≡ c 2 *ℤ u (6 + a)) → ((a : ℕ) → a < 3 → pn a ≡ c 3 *ℤ u (9 + a))
+    → (k : ℕ) → k < 9 → element_tendency v pw pe ps pn (c 0) (c 1) (c 2) (c 3) k ≡ local_tendency v c u k
+unfolding element_tendency local_tendency quadratic
+element_tendency-is v c u pw pe ps pn hw he hs hn k h =
+    let a = k % 3 in
+    let b = k / 3 in
+    let ωa = quadratic.line_weight a in
+    let ωb = quadratic.line_weight b in
+    let ha : a < 3 = omega arith in
+    let hb : b < 3 = omega arith in
+    let above : 0 < 2 * (ωa * ωb) = omega arith in
+    let d : 2 * (ωa * ωb) * 4096 ≡ 8192 * (ωa * ωb) = omega arith in
+    let tx = at (get_or (table 3 (way_line v pw pe (c 0) (c 1) 3 1)) b []) a in
+    let ty = at (get_or (table 3 (way_line v ps pn (c 2) (c 3) 1 3)) a []) b in
+    let x = place-is v pw pe (c 0) (c 1) 3 1 b a (λ q. v (node quadratic q b)) (u b) (u (3 + b)) ha hb (λ q. ap v (omega arith)) (hw b hb) (he b hb) in
+    let y = place-is v ps pn (c 2) (c 3) 1 3 a b (λ q. v (node quadratic a q)) (u (6 + a)) (u (9 + a)) hb ha (λ q. ap v (omega arith)) (hs a ha) (hn a ha) in
+    sym (floor-common (2 * (ωa * ωb)) 4096 (tx +ℤ ty) above)
+    ∙ (λ i. floor_div (sym (both-shares ωa ωb tx ty) i) (d i))
+    ∙ (λ i. floor_div (pos ωb *ℤ x i +ℤ pos ωa *ℤ y i) (8192 * (ωa * ωb)))

@@ -5,7 +5,7 @@ use Rattle.step_tendency.specs.declared.Lines.{Lines}
 use Rattle.step_tendency.specs.Line.{way_line}
 
 abbrev pub line_of : Lines → ℕ → List ℤ
-line_of l = way_line (at l.v.now) (at l.u.now) l.first_wind l.last_wind l.way.side l.way.step l.way.stride
+line_of l = way_line (at l.v.now) (at l.first.products) (at l.last.products) l.first.wind l.last.wind l.way.step l.way.stride
 
 abbrev pub lines_of : Lines → List (List ℤ)
 lines_of l = table 3 (line_of l)

@@ -3,7 +3,7 @@ use Rattle.std.specs.Prelude.{List, [], ℕ, ◌*◌, get_or, ℤ}
 use Rattle.whole.specs.Bound.{AllWithin}
 use Rattle.rules.specs.Sizes.{stage_size}
 
--- a product of a wind, or the sum of two, and a value
+-- a product of a wind, or the sum of two, and a value, also of a face's wind and an upwind value there
 abbrev pub product_size : ℕ
 product_size = 2048 * stage_size
 

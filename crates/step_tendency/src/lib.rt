@@ -1,39 +1,41 @@
-// The tendency of one element, document 01's t(a, b), from its nine values, the winds of its four faces and the upwind values there.
+// The tendency of one element, document 01's t(a, b), from its nine values, the winds of its four faces, and the products of these winds and the
+// upwind values there.
 // Every function here is a leaf: values are as small as the stages are, and winds within 1024.
 #![tactic(auto)]
 
-ghost use Rattle.std.specs.Prelude.{◌≡◌, ◌+◌, ◌*◌, ◌≤◌, ◌<◌, ◌*ℤ◌};
+ghost use Rattle.std.specs.Prelude.{◌≡◌, ◌+◌, ◌*◌, ◌<◌, ◌*ℤ◌};
 ghost use Rattle.whole.specs.Bound.{Within, AllWithin};
 ghost use Rattle.whole.specs.Table.{table, at};
 ghost use Rattle.rules.specs.Sizes.{stage_size};
 ghost use Rattle.step_tendency.specs.Sizes.{product_size, line_size, LinesWithin};
-ghost use Rattle.step_tendency.specs.Line.{place_sums, node_tendency, local_tendency};
+ghost use Rattle.step_tendency.specs.Line.{place_sums, node_tendency, element_tendency};
 
 use rules::element::{NODES, SIDE};
 use std::array;
 
-// How many upwind values an element's four sides have. They stand in one row, as the definition numbers them.
-pub const UPWIND_VALUES: usize = 4 * SIDE;
+// A face as the lines of an element that end there meet it: its wind, and the products of the wind and the three upwind values at the face.
+#[derive(Clone, Copy)]
+pub struct Side {
+    pub wind: i64,
+    pub products: [i64; SIDE],
+    ghost in_range: { Within 1024 wind },
+    ghost small: { AllWithin product_size products },
+}
 
-// One of the two ways that an element's lines go: line b starts at step b and goes on by stride. The upwind values of the lines'
-// first ends stand from place side on, those of their last ends three places further.
+// One of the two ways that an element's lines go: line b starts at step b and goes on by stride.
 #[derive(Clone, Copy)]
 struct Way {
-    side: usize,
     step: usize,
     stride: usize,
-    ghost sides_inside: { side ≤ 6 },
     ghost nodes_inside: { 2 * step + 2 * stride < 9 },
 }
 
 const EASTWARD: Way = Way {
-    side: 0,
     step: SIDE,
     stride: 1,
 };
 
 const NORTHWARD: Way = Way {
-    side: 2 * SIDE,
     step: 1,
     stride: SIDE,
 };
@@ -66,19 +68,14 @@ fn place_sums(first: i64, middle: i64, last: i64, first_end: i64, last_end: i64)
     ]
 }
 
-// The three lines of an element that go one way: the element's nine values, the winds of the faces at the lines' first and last ends, and the
-// upwind values of its four faces.
+// The three lines of an element that go one way: the element's nine values, and the sides where the lines begin and end.
 #[derive(Clone, Copy)]
 struct Lines<'a> {
     v: &'a [i64; NODES],
-    first_wind: i64,
-    last_wind: i64,
-    u: &'a [i64; UPWIND_VALUES],
+    first: Side,
+    last: Side,
     way: Way,
     ghost values_small: { AllWithin stage_size v.now },
-    ghost first_in_range: { Within 1024 first_wind },
-    ghost last_in_range: { Within 1024 last_wind },
-    ghost upwind_small: { AllWithin stage_size u.now },
 }
 
 impl Lines<'_> {
@@ -90,13 +87,13 @@ impl Lines<'_> {
         ensures value { result ≡ line_of self.entry b }
         ensures small { AllWithin line_size result }
     {
-        let Way { side, step, stride } = self.way;
+        let Way { step, stride } = self.way;
         let start = step * b;
-        let first = product(self.first_wind, self.v[start]);
-        let middle = product(self.first_wind + self.last_wind, self.v[start + stride]);
-        let last = product(self.last_wind, self.v[start + 2 * stride]);
-        let first_end = product(self.first_wind, self.u[side + b]);
-        let last_end = product(self.last_wind, self.u[side + SIDE + b]);
+        let first = product(self.first.wind, self.v[start]);
+        let middle = product(self.first.wind + self.last.wind, self.v[start + stride]);
+        let last = product(self.last.wind, self.v[start + 2 * stride]);
+        let first_end = self.first.products[b];
+        let last_end = self.last.products[b];
         place_sums(first, middle, last, first_end, last_end)
     }
 
@@ -121,28 +118,28 @@ fn node_tendency(x: &[[i64; SIDE]; SIDE], y: &[[i64; SIDE]; SIDE], k: usize) -> 
     (x[b][a] + y[a][b]) >> 12
 }
 
-// The tendency at each node. The winds c are those of the west, east, south and north face, and u has the three upwind values
-// of each, in this order.
-pub fn tendencies(v: &[i64; NODES], c: &[i64; 4], u: &[i64; UPWIND_VALUES]) -> [i64; NODES]
-    requires all_within { AllWithin stage_size v.now }
-    requires all_within_2 { AllWithin 1024 c.now }
-    requires all_within_3 { AllWithin stage_size u.now }
-    ensures { result ≡ table 9 (local_tendency (at v.now) (at c.now) (at u.now)) }
+// The tendency at each node, from the element's values and its four sides.
+pub fn tendencies(
+    v: &[i64; NODES],
+    west: Side,
+    east: Side,
+    south: Side,
+    north: Side,
+) -> [i64; NODES]
+    requires { AllWithin stage_size v.now }
+    ensures { result ≡ table 9 (element_tendency (at v.now) (at west.products) (at east.products) (at south.products) (at north.products) west.wind east.wind south.wind north.wind) }
 {
-    let [west, east, south, north] = *c;
     let x = Lines {
         v,
-        first_wind: west,
-        last_wind: east,
-        u,
+        first: west,
+        last: east,
         way: EASTWARD,
     }
     .lines();
     let y = Lines {
         v,
-        first_wind: south,
-        last_wind: north,
-        u,
+        first: south,
+        last: north,
         way: NORTHWARD,
     }
     .lines();

@@ -6,7 +6,6 @@ use Prim.Native.Nat.{ℕ, zero, suc, ◌+◌, ◌*◌, ◌<◌}
 use native.Mathlib.Nat.{one-mul}
 use native.Mathlib.Omega.{arith}
 use lib.IntN.{ℤ, pos, negsuc, neg_ℤ, ◌+ℤ◌, ◌-ℤ◌, ◌*ℤ◌}
-use lib.ListN.{get_or}
 use lib.Signed.{non_neg, le_z}
 use borrow.Author.Tests.{le-leb}
 use mir.Syntax.{w64}
@@ -16,12 +15,8 @@ use Rattle.whole.specs.Bound.{Within}
 use Rattle.whole.specs.Parts.{positive, negative}
 use Rattle.whole.proofs.WholeLaws.{eq-parts, add_parts, sub-parts-of, positive-mul, negative-mul}
 use Rattle.whole.proofs.Sizes.{exacts, exact}
-use Rattle.rules.specs.declared.Shape.{Shape}
-use Rattle.rules.specs.Field.{elements}
 use Rattle.rules.specs.Sizes.{most_elements}
-use Rattle.step_grid.specs.Place.{Placed}
-use Rattle.step_upwind.specs.Upwind.{sign, behinds, aheads, upwind_start}
-use Rattle.step_grid.proofs.PlaceLaws.{west-in, east-in, south-in, north-in}
+use Rattle.step_upwind.specs.Upwind.{sign, upwind_start}
 
 -- ---- where a face's values begin, by the sign of its wind
 pub sign-is : (c : ℤ) → le_z (pos 0) c ≡ non_neg c
@@ -82,13 +77,3 @@ four P a b c d (suc zero) h = b
 four P a b c d (suc (suc zero)) h = c
 four P a b c d (suc (suc (suc zero))) h = d
 four P a b c d (suc (suc (suc (suc s)))) h = let f : ⊥ = omega arith in absurd f
-
-module _ (g : Shape) (e : ℕ) (h : Placed g e) where
-  -- the elements at the four sides are on the grid
-  pub behind-inside : (s : ℕ) → s < 4 → get_or (behinds g e) s 0 < elements g
-  behind-inside = four (λ s. get_or (behinds g e) s 0 < elements g)
-      (west-in h) h.inside (south-in h) h.inside
-
-  pub ahead-inside : (s : ℕ) → s < 4 → get_or (aheads g e) s 0 < elements g
-  ahead-inside = four (λ s. get_or (aheads g e) s 0 < elements g)
-      h.inside (east-in h) h.inside (north-in h)

@@ -1,4 +1,3 @@
 pub mod Laws
 pub mod TendencyLaws
 pub mod ListedLaws
-pub mod ArrayMap

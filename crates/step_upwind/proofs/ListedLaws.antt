@@ -2,7 +2,6 @@
 use mathlib.Core.Path.{◌≡◌, sym, ap, ap₂, ◌∙◌}
 use mathlib.Core.List.{List, []}
 use Prim.Native.Nat.{ℕ, ◌+◌, ◌*◌, ◌/◌, ◌%◌, ◌≤◌, ◌<◌}
-use native.Mathlib.Nat.{div-add-mod'}
 use native.Mathlib.Omega.{arith}
 use lib.Arith.{digits_div, digits_mod}
 use lib.IntN.{ℤ, pos}
@@ -10,20 +9,20 @@ use lib.ListN.{length, get_or, drop, length-drop}
 use lib.Seq.{get_or-drop}
 use Rattle.std.specs.Simd.{first_chunks}
 use Rattle.whole.specs.Bound.{Within, AllWithin}
-use Rattle.whole.specs.Table.{table, at}
+use Rattle.whole.specs.Table.{table}
 use Rattle.whole.proofs.BoundLaws.{within-le, within-pos}
 use Rattle.whole.proofs.ListParts.{chunk-at}
 use Rattle.whole.proofs.TableLaws.{get_d-table, table-cong, table-all, table-take}
 use Rattle.step_upwind.specs.Upwind.{as_stage, listed}
 
--- number i of a list is number i % 9 of element i / 9
-pub flat : (l : List ℤ) (i : ℕ) → as_stage l (i / 9) (i % 9) ≡ at l i
-flat l i = ap (at l) (div-add-mod' i 9)
-
 -- chunk e of a list, nine numbers each, is the numbers of element e
 pub chunk-of : (l : List ℤ) (e : ℕ) {cs : List (List ℤ)} → cs ≡ first_chunks 9 (length l / 9) l → e * 9 + 9 ≤ length l → get_or cs e [] ≡ table 9 (as_stage l e)
 chunk-of l e same room = ap (λ x. get_or x e []) same ∙ chunk-at 9 (length l / 9) e l (omega arith) ∙ sym (table-take 9 (drop (e * 9) l) (pos 0) (omega (arith, length-drop (e * 9) l)))
     ∙ table-cong 9 _ _ (λ k h. get_or-drop (e * 9) l k (pos 0))
+
+-- an element's numbers are as small as all are
+pub element-within : {n : ℕ} (l : List ℤ) (e : ℕ) → AllWithin n l → AllWithin n (table 9 (as_stage l e))
+element-within {n} l e h = record { all = table-all (Within n) 9 (as_stage l e) (pos 0) (within-le (within-pos 0) (omega arith)) (λ k _. h.all (e * 9 + k)) }
 
 module _ (n : ℕ) where
   pub listed-at : (φ : ℕ → ℕ → ℤ) (e k : ℕ) → e < n → k < 9 → as_stage (listed (n * 9) φ) e k ≡ φ e k

@@ -1,40 +1,23 @@
-// Upwind values, and the tendencies of one element of the grid, of a stage under the winds that carry it.
-// Every function here is a leaf: the element is on the grid, as the face is. An element stands by its number: an `Element` holds a grid of its own, of
-// which a clause would say that it is the winds'.
+// Upwind values, their products with the winds, and the tendencies of one element of the grid, of a stage under the winds that carry it.
+// Every function here is a leaf: the element is on the grid, as the face is, and either is of the winds' grid.
 #![tactic(auto)]
 
-ghost use Rattle.std.specs.Prelude.{◌≡◌, ◌+◌, ◌≤◌, ◌<◌, length};
-ghost use Rattle.whole.specs.Bound.{Are, AllWithin};
+ghost use Rattle.std.specs.Prelude.{◌≡◌, cond, ◌+◌, ◌*◌, ◌<◌, ◌*ℤ◌, length};
+ghost use Rattle.whole.specs.Bound.{Within, Are, AllWithin};
 ghost use Rattle.whole.specs.Table.{table, at};
 ghost use Rattle.rules.specs.Field.{quadratic, elements, faces};
+ghost use Rattle.rules.specs.Grid.{looks_east, behind, ahead};
 ghost use Rattle.rules.specs.Sizes.{most_elements, stage_size};
 ghost use Rattle.rules.specs.Stages.{tendency};
 ghost use Rattle.rules.specs.Calls.{wind_at};
-ghost use Rattle.step_upwind.specs.Upwind.{stage_length, as_stage, WindsInRange, side_winds, sign, upwind_start, side_start, upwind_place, Reached};
+ghost use Rattle.step_tendency.specs.Sizes.{product_size};
+ghost use Rattle.step_upwind.specs.Upwind.{stage_length, as_stage, WindsInRange, sign, upwind_start, face_product, face_products};
 
 use field_layout::Grid;
 use rules::element::{NODES, SIDE};
 use std::array;
-use step_grid::Element;
-use step_tendency::UPWIND_VALUES;
-
-// A line of nodes: its first one, and how much further the next one stands.
-#[derive(Clone, Copy)]
-pub struct Line {
-    pub start: usize,
-    pub stride: usize,
-}
-
-// The line of nodes at an element's east side, and the one at its north side.
-pub const EAST_LINE: Line = Line {
-    start: SIDE - 1,
-    stride: SIDE,
-};
-
-pub const NORTH_LINE: Line = Line {
-    start: NODES - SIDE,
-    stride: 1,
-};
+use step_grid::{Element, Face};
+use step_tendency::Side;
 
 // The winds of a grid's faces, each in its range.
 #[derive(Clone, Copy)]
@@ -46,23 +29,11 @@ pub struct Winds<'a> {
 
 impl Winds<'_> {
     // The wind of a face.
-    pub fn at_face(self, face: usize) -> i64
+    fn at_face(self, face: usize) -> i64
         requires { face < faces self.grid.shape }
         ensures { Are 1024 result (wind_at self.entry.wind.now face) }
     {
         i64::from(self.wind[face])
-    }
-
-    // The winds of an element's west, east, south and north face.
-    fn at_sides(self, index: usize) -> [i64; 4]
-        requires { index < elements self.grid.shape }
-        ensures { result ≡ side_winds self.entry.grid.shape (wind_at self.entry.wind.now) index }
-    {
-        let element = Element {
-            grid: self.grid,
-            index,
-        };
-        element.sides().map(|face| self.at_face(face))
     }
 }
 
@@ -76,7 +47,7 @@ fn sign(c: i64) -> i64
 // Where the upwind values of a face begin in a stage: in the element behind it where the wind is not negative, else in the one ahead.
 // Computed from the sign: a branch here would be guessed wrong at every second face of a wind that often turns.
 // By `as`: std has no `From` between usize and i64, and Rattle proves that nothing is lost.
-pub fn upwind_start(c: i64, behind: usize, ahead: usize, last: usize) -> usize
+fn upwind_start(c: i64, behind: usize, ahead: usize, last: usize) -> usize
     requires behind_lt_most_elements { behind < most_elements }
     requires ahead_lt_most_elements { ahead < most_elements }
     requires last_bound { last < 9 }
@@ -87,21 +58,43 @@ pub fn upwind_start(c: i64, behind: usize, ahead: usize, last: usize) -> usize
     (in_behind + sign(c) * (in_behind - in_ahead)) as usize
 }
 
-// The same for an element's west, east, south and north side.
-fn starts(c: &[i64; 4], element: Element) -> [usize; 4]
-    ensures { result ≡ table 4 (side_start element.grid.shape c.now element.index) }
+// A line of nodes: its first one, and how much further the next one stands.
+#[derive(Clone, Copy)]
+struct Line {
+    start: usize,
+    stride: usize,
+}
+
+// The line of nodes at a face, in the element behind: at its east side, or at its north side.
+fn line_behind(face: Face) -> Line
+    ensures start { result.start ≡ cond (looks_east face.grid.shape face.index) 2 6 }
+    ensures stride { result.stride ≡ cond (looks_east face.grid.shape face.index) 3 1 }
 {
-    let e = element.index;
-    let west = element.west();
-    let east = element.east();
-    let south = element.south();
-    let north = element.north();
-    [
-        upwind_start(c[0], west, e, EAST_LINE.start),
-        upwind_start(c[1], e, east, EAST_LINE.start),
-        upwind_start(c[2], south, e, NORTH_LINE.start),
-        upwind_start(c[3], e, north, NORTH_LINE.start),
-    ]
+    if face.looks_east() {
+        Line {
+            start: SIDE - 1,
+            stride: SIDE,
+        }
+    } else {
+        Line {
+            start: NODES - SIDE,
+            stride: 1,
+        }
+    }
+}
+
+// The line of a stage that has a face's upwind values, where its wind is c.
+fn upwind_line(c: i64, face: Face) -> Line
+    ensures start { result.start ≡ upwind_start c (behind face.grid.shape face.index) (ahead face.grid.shape face.index) (cond (looks_east face.grid.shape face.index) 2 6) }
+    ensures stride { result.stride ≡ cond (looks_east face.grid.shape face.index) 3 1 }
+    ensures room { result.start + 2 * result.stride < stage_length face.grid.shape }
+{
+    let (behind, ahead) = face.ends();
+    let Line { start, stride } = line_behind(face);
+    Line {
+        start: upwind_start(c, behind, ahead, start),
+        stride,
+    }
 }
 
 // A stage under the winds that carry it: nine numbers an element, each as small as the stages are. A stage is lent for a pass, the winds for
@@ -115,24 +108,24 @@ pub struct Stage<'s, 'w> {
 }
 
 impl<'s> Stage<'s, '_> {
-    // Upwind value m of the four sides, three for each. A line goes on by SIDE at the west and the east side, by 1 at the others; a table
-    // of these steps would be laid on the stack at every turn.
-    fn upwind_value(self, starts: &[usize; 4], m: usize) -> i64
-        requires reached { Reached starts.now self.phi.now }
-        requires m_bound { m < 12 }
-        ensures { result ≡ at self.entry.phi.now (upwind_place starts.now m) }
+    // The product of a wind and the value at place r of a line.
+    fn product(self, c: i64, line: Line, r: usize) -> i64
+        requires wind { Within 1024 c }
+        requires room { line.start + 2 * line.stride < length self.phi.now }
+        requires place { r < 3 }
+        ensures { result ≡ c *ℤ at self.entry.phi.now (line.start + line.stride * r) }
     {
-        let side = m / SIDE;
-        let stride = SIDE - (SIDE - 1) * (side / 2);
-        self.phi[starts[side] + stride * (m % SIDE)]
+        c * self.phi[line.start + line.stride * r]
     }
 
-    // All of them.
-    fn upwind_values(self, starts: &[usize; 4]) -> [i64; UPWIND_VALUES]
-        requires { Reached starts.now self.phi.now }
-        ensures { result ≡ table 12 (λ m. at self.entry.phi.now (upwind_place starts.now m)) }
+    // The products of a face's wind and its three upwind values.
+    pub fn products(self, face: Face) -> [i64; SIDE]
+        requires { face.grid.shape ≡ self.winds.grid.shape }
+        ensures { result ≡ table 3 (face_product self.entry.winds.grid.shape (wind_at self.entry.winds.wind.now) (as_stage self.entry.phi.now) face.index) }
     {
-        array::from_fn(|m| self.upwind_value(starts, m))
+        let c = self.winds.at_face(face.index);
+        let line = upwind_line(c, face);
+        array::from_fn(|r| self.product(c, line, r))
     }
 
     // An element's nine values.
@@ -143,20 +136,59 @@ impl<'s> Stage<'s, '_> {
         let (elements, _) = self.phi.as_chunks::<NODES>();
         &elements[index]
     }
+}
+
+// A stage and the products at all faces, three each, in the order of the faces: the two elements at a face have the same ones.
+#[derive(Clone, Copy)]
+pub struct FaceProducts<'p, 's, 'w> {
+    pub stage: Stage<'s, 'w>,
+    pub products: &'p [i64],
+    ghost of_stage: { products.now ≡ face_products stage.winds.grid.shape (wind_at stage.winds.wind.now) (as_stage stage.phi.now) },
+}
+
+impl FaceProducts<'_, '_, '_> {
+    // The product at place r of a face.
+    fn product(self, face: usize, r: usize) -> i64
+        requires face { face < faces self.stage.winds.grid.shape }
+        requires place { r < 3 }
+        ensures { result ≡ face_product self.entry.stage.winds.grid.shape (wind_at self.entry.stage.winds.wind.now) (as_stage self.entry.stage.phi.now) face r }
+    {
+        self.products[face * SIDE + r]
+    }
+
+    // The products at a face.
+    pub fn at_face(self, face: usize) -> [i64; SIDE]
+        requires { face < faces self.stage.winds.grid.shape }
+        ensures value { result ≡ table 3 (face_product self.entry.stage.winds.grid.shape (wind_at self.entry.stage.winds.wind.now) (as_stage self.entry.stage.phi.now) face) }
+        ensures small { AllWithin product_size result }
+    {
+        array::from_fn(|r| self.product(face, r))
+    }
+
+    // A face as the lines of nodes that end there meet it.
+    fn side(self, face: usize) -> Side
+        requires { face < faces self.stage.winds.grid.shape }
+        ensures wind { result.wind ≡ wind_at self.entry.stage.winds.wind.now face }
+        ensures products { result.products ≡ table 3 (face_product self.entry.stage.winds.grid.shape (wind_at self.entry.stage.winds.wind.now) (as_stage self.entry.stage.phi.now) face) }
+    {
+        Side {
+            wind: self.stage.winds.at_face(face),
+            products: self.at_face(face),
+        }
+    }
 
     // The tendencies of an element.
-    pub fn tendencies(self, index: usize) -> [i64; NODES]
-        requires { index < elements self.winds.grid.shape }
-        ensures { result ≡ table 9 (tendency quadratic self.entry.winds.grid.shape (wind_at self.entry.winds.wind.now) (as_stage self.entry.phi.now) index) }
+    pub fn tendencies(self, element: Element) -> [i64; NODES]
+        requires { element.grid.shape ≡ self.stage.winds.grid.shape }
+        ensures { result ≡ table 9 (tendency quadratic self.entry.stage.winds.grid.shape (wind_at self.entry.stage.winds.wind.now) (as_stage self.entry.stage.phi.now) element.index) }
     {
-        let element = Element {
-            grid: self.winds.grid,
-            index,
-        };
-        let c = self.winds.at_sides(index);
-        let s = starts(&c, element);
-        let u = self.upwind_values(&s);
-        let v = self.values_of(index);
-        step_tendency::tendencies(v, &c, &u)
+        let [west, east, south, north] = element.sides();
+        step_tendency::tendencies(
+            self.stage.values_of(element.index),
+            self.side(west),
+            self.side(east),
+            self.side(south),
+            self.side(north),
+        )
     }
 }

@@ -1,9 +1,9 @@
 use lib.IntN.{pos}
-use lib.ListN.{length}
-use Rattle.whole.specs.Table.{at}
-use Rattle.whole.proofs.FillLaws.{Filled}
+use Prim.Native.Nat.{◌+◌, ◌*◌}
+use Rattle.whole.specs.Table.{table, at}
+use Rattle.whole.proofs.FillLaws.{BlocksFilled}
 use Rattle.rules.specs.Correction.{donor, outflow}
 use Rattle.step_correction.proofs.outflows.Given as goal
 
 abbrev pub invariant-loop-index : goal.invariant-loop-index
-invariant-loop-index l = Filled (λ e. pos (outflow l.grid.shape (donor l.grid.shape (at l.fluxes)) (at l.fluxes) e)) l.initial.outflows (length l.initial.outflows) l.index l.outflows
+invariant-loop-index l = let g = l.grid.shape in BlocksFilled g.nx (λ j. table g.nx (λ i. pos (outflow g (donor g (at l.fluxes)) (at l.fluxes) (j * g.nx + i)))) l.initial.outflows g.ny l.index l.outflows

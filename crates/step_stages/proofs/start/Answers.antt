@@ -1,24 +1,19 @@
 use mathlib.Core.Path.{◌≡◌, refl, sym, ◌∙◌}
-use Prim.Native.Nat.{◌*◌, ◌≤◌, ◌<◌}
+use Prim.Native.Nat.{◌*◌, ◌<◌}
 use native.Mathlib.Nat.{add-sub_cancel_left}
 use native.Mathlib.Omega.{arith}
 use lib.ListN.{length, take}
 use Rattle.whole.proofs.TableLaws.{length-table, table-cong, blocks-table}
 use Rattle.rules.specs.Field.{quadratic, elements}
 use Rattle.rules.specs.Stages.{stage0}
-use Rattle.field_layout.proofs.PlaceLaws.{elements-are}
 use Rattle.whole.proofs.FillLaws.{blocks-none, blocks-next, blocks-whole}
 use Rattle.step_stages.proofs.Laws.{all-lent, stored-lent}
 use Rattle.step_stages.proofs.start.Goals as goal
 use Rattle.step_stages.proofs.start.Goals.{After-as_chunks}
 
--- the part has the numbers of the elements
-numbers : (c : After-as_chunks) → c.elements-n.result * 10 ≤ length c.args.part.now
-numbers c = omega (arith, c.requires.part_len, elements-are c.args.grid.shape, c.elements-n.ensures)
-
--- what is lent of them is every element
+-- what is lent of the part is every element
 lent : (c : After-as_chunks) → length (take c.elements-n.result c.as_chunks.result.0.now) ≡ c.elements-n.result
-lent c = all-lent c.args.part.now c.as_chunks.result.0.now c.elements-n.result c.as_chunks.ensures.front_len (numbers c)
+lent c = all-lent c.args.grid.shape c.args.part.now c.as_chunks.result.0.now c.elements-n.result c.as_chunks.ensures.front_len c.elements-n.ensures c.requires.part_len
 
 pub slice_bounds-numbers-items-end : goal.slice_bounds-numbers-items-end
 slice_bounds-numbers-items-end c = sym (lent (goal.at.slice_bounds-numbers-items-end c).After-as_chunks)
@@ -31,7 +26,7 @@ loop-index-preserved c =
     let e = c.loop-index.index in
     let x = (goal.at.loop-index-preserved c).After-as_chunks in
     let l : e < c.elements-n.result = omega (arith, c.loop-index-test.true, lent x) in
-    let s = stored-lent c.args.part.now _ c.elements-n.result c.as_chunks.ensures.front_len (numbers x) e l c.as_chunks.ensures.front in
+    let s = stored-lent c.args.grid.shape c.args.part.now _ c.elements-n.result c.as_chunks.ensures.front_len c.elements-n.ensures c.requires.part_len e l c.as_chunks.ensures.front in
     blocks-next (λ k. length-table 9 _) c.loop-index.invariant (omega (arith, c.elements-n.ensures)) refl (add-sub_cancel_left (e * 9) 9) (c.store.ensures ∙ table-cong 9 _ _ s)
 
 pub returns : goal.returns

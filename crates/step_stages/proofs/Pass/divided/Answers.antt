@@ -10,7 +10,7 @@ use Rattle.whole.proofs.BoundLaws.{within-le, within-floor-any}
 use Rattle.whole.proofs.Sizes.{sizes, exacts, within, are-eq, bounded, back_is}
 use Rattle.rules.specs.Sizes.{sum_size}
 use Rattle.step_stages.specs.declared.Pass.{Pass}
-use Rattle.step_stages.specs.Advance.{from_stage, divisor}
+use Rattle.step_stages.specs.Passes.{from_stage, divisor}
 use Rattle.step_stages.proofs.Laws.{floor-one}
 use Rattle.step_stages.proofs.Pass.divided.Goals as goal
 
