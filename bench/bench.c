@@ -9,7 +9,8 @@
 #include "common.h"
 #include "plain.h"
 
-enum { ROUNDS = 9, ELEMENTS = 450000 /* of all steps of a round */ };
+/* A round has as many steps as make that many elements, and no fewer than LEAST: the best of few steps is dearer than the best of many. */
+enum { ROUNDS = 9, ELEMENTS = 450000, LEAST = 500 };
 
 typedef int64_t step_fn(uint32_t *, size_t, const int16_t *, size_t, int32_t *, size_t, int64_t *, size_t, size_t, size_t, size_t, size_t);
 
@@ -83,7 +84,7 @@ static int compare(size_t nx, size_t ny, int slow)
     memcpy(plain.field, proved.field, 4 * part_length(n));
     for (int round = 0; round < ROUNDS; round++) {
         proved.best = plain.best = 1e18;
-        for (size_t i = 0; i < ELEMENTS / n; i++) {
+        for (size_t i = 0; i < ELEMENTS / n || i < LEAST; i++) {
             once(plume_step, &proved, wind, nx, ny);
             once(plain_step, &plain, wind, nx, ny);
         }
