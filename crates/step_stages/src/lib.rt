@@ -28,7 +28,7 @@ pub enum Pass {
 
 impl Pass {
     // How often the stage's tendencies count in their sum: 1, 1, 4. Of a match that gives 1 or 4 the compiler makes a shift at every node in place of the
-    // product (tried: the step was 5 % slower).
+    // product (tried: the step was 3 % slower).
     pub fn factor(self) -> i64
         ensures { Are 4 result (pos (factor (from_stage self))) }
     {
