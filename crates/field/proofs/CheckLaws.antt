@@ -197,6 +197,7 @@ module _ (g : Shape) (s i j : ℕ) (f : List ℕ) where
 
   -- what an accepted one has shown
   pub record Held (h : MassAndTotal) : Type 0 where
+    pub shape : Admitted g
     pub within : Inside g s i j
     pub room : field_length quadratic g ≤ length f
     pub stored : h.total ≡ stored_total quadratic g (part quadratic g s f)
@@ -209,6 +210,7 @@ module _ (g : Shape) (s i j : ℕ) (f : List ℕ) where
       let b = both_yes (ltb i g.nx) (ltb j g.ny) c.1.1.1.1.0 in
       let k = named quadratic g (part quadratic g s f) i j (tested (ltb s g.tracers) (named_sound quadratic g i j (part quadratic g s f)) c.1.1.1.0 c.1.1.0) c.1.1.1.1.0 in
       record {
+        shape = ranges g c.0;
         within = record { tracer = ltb→lt _ _ c.1.1.1.0; column = ltb→lt _ _ b.0; row = ltb→lt _ _ b.1 };
         room = leb→le _ _ c.1.0;
         stored = refl;

@@ -1,13 +1,15 @@
 -- Lengths, starts and rooms of an admitted shape, with numerals: each is a product of factors that the shape bounds.
-use mathlib.Core.Path.{◌≡◌, refl, ap, ◌∙◌}
-use mathlib.Core.Bool.{true}
-use Prim.Native.Nat.{ℕ, ◌+◌, ◌*◌, ◌≤◌, ◌<◌}
+use mathlib.Core.Path.{◌≡◌, refl, sym, ap, ◌∙◌}
+use mathlib.Core.Bool.{true, false}
+use Prim.Native.Nat.{ℕ, suc, ◌+◌, ◌*◌, ◌≤◌, ◌<◌}
 use native.Mathlib.Nat.{mul-le-mul}
 use native.Mathlib.Omega.{arith}
-use borrow.Author.Tests.{le-leb}
+use borrow.Author.Tests.{lt-leb, le-leb, ltb-true, ltb-false}
+use lib.IntN.{ℤ, pos, negsuc}
+use lib.Signed.{lt_z, le_z}
 use Rattle.whole.proofs.OverwriteLaws.{part_room}
 use Rattle.rules.specs.declared.Shape.{Shape}
-use Rattle.rules.specs.Field.{quadratic, admitted, elements, element, element_length, part_length, field_length, Admitted, elements_length}
+use Rattle.rules.specs.Field.{quadratic, admitted, elements, element, element_length, part_length, field_length, Admitted, elements_length, wind_in_range}
 use Rattle.rules.proofs.GridLaws.{element-lt}
 use Rattle.rules.proofs.ShapeLaws.{elements-le}
 use Rattle.field_layout.specs.Places.{Inside, element_start, most_part, most_field}
@@ -66,3 +68,12 @@ module _ (g : Shape) where
   pub start_is : (s i j : ℕ) → element_start g s i j ≡ s * part_length quadratic g + element g i j * 10
   unfolding element_start
   start_is s i j = ap (λ n. s * part_length quadratic g + element g i j * n) ten
+
+-- ---- a wind number's range by two tests
+pub wind-low : (z : ℤ) → lt_z z (negsuc 1023) ≡ true → wind_in_range z ≡ false
+wind-low (pos a) h = let x : ◌≡◌ {A = ℕ} 0 1 = cc in absurd (omega arith)
+wind-low (negsuc a) h = lt-leb (suc a) 1024 (omega (arith, ltb-true 1023 a h))
+
+pub wind-high : (z : ℤ) → lt_z z (negsuc 1023) ≡ false → le_z z (pos 1024) ≡ wind_in_range z
+wind-high (pos a) h = refl
+wind-high (negsuc a) h = sym (le-leb (suc a) 1024 (omega (arith, ltb-false 1023 a h)))

@@ -1,26 +1,32 @@
 -- The parts that tracers' sections make, one after the other: they are tested, and read into the field.
-use mathlib.Core.Path.{◌≡◌, sym, ap, subst, ◌∙◌}
-use mathlib.Core.Bool.{Bool, true}
-use mathlib.Core.List.{List, ◌++◌}
+use mathlib.Core.Path.{◌≡◌, refl, sym, ap, subst, ◌∙◌}
+use mathlib.Core.Bool.{Bool, true, false}
+use mathlib.Core.List.{List, [], ◌∷◌, ◌++◌}
 use Prim.Native.Nat.{ℕ, ◌+◌, ◌*◌, ◌/◌, ◌≤◌, ◌<◌}
-use native.Mathlib.Nat.{zero-mul, suc-mul, mul-div_cancel, mul-le-mul_right, lt_of_mul-lt-mul_right}
+use native.Mathlib.Nat.{zero-mul, suc-mul, mul-div_cancel, add-mul-div_right, mul-le-mul_right, lt_of_mul-lt-mul_right}
 use native.Mathlib.Numerals.{add-one}
 use native.Mathlib.Omega.{arith}
 use lib.Dec.{T}
-use lib.ListN.{length, take, drop, length-append, length-drop}
+use lib.ListN.{length, get_or, set, take, drop, length-append, length-drop, get_or-append}
 use lib.Seq.{take_at, drop_at, drop-drop}
-use Rattle.whole.specs.Table.{blocks, overwrite}
+use Rattle.whole.specs.Sum.{all}
+use Rattle.whole.specs.Table.{table, blocks, overwrite}
 use Rattle.whole.proofs.Cases.{true_of}
-use Rattle.whole.proofs.FillLaws.{BlocksFilled, blocks-none, blocks-next, blocks-all}
+use Rattle.whole.proofs.FillLaws.{Filled, filled_none, filled_next, BlocksFilled, blocks-none, blocks-next, blocks-all}
 use Rattle.whole.proofs.ListParts.{part-of-blocks}
-use Rattle.whole.proofs.SumLaws.{all-at}
+use Rattle.whole.proofs.SumLaws.{all-at, all_more, all-fails}
+use Rattle.whole.proofs.TableLaws.{length-table, get_d-table}
 use Rattle.rules.specs.declared.Shape.{Shape}
 use Rattle.rules.specs.declared.Mark.{Mark}
-use Rattle.rules.specs.Field.{quadratic, part_length, field_length, part, sound}
+use Rattle.rules.specs.Answers.{accepted, check}
+use Rattle.rules.specs.Field.{quadratic, part_length, field_length, part, total, sound}
 use Rattle.rules.specs.FieldFile.{section_length, field_sound}
+use Rattle.rules.proofs.AnswerLaws.{accepted-is}
+use Rattle.field_search.specs.Search.{compared}
 use Rattle.field_layout.proofs.PlaceLaws.{field_is, tracer-room}
 use Rattle.file_sections.specs.Numbers.{part_of_section, parts_of_sections}
 use Rattle.file_sections.proofs.PartLaws.{length-part-of-section}
+use Rattle.file_reading.specs.Reading.{AreTotals}
 
 -- one section more
 count_more : (k n : ℕ) → (k + 1) * n ≡ k * n + n
@@ -53,51 +59,100 @@ module _ (m : Mark) (g : Shape) (bytes : List ℕ) (n : ℕ) (e : n ≡ 4 * sect
   bytes-long : length bytes ≡ g.tracers * (4 * section_length quadratic m g) → length bytes ≡ g.tracers * n
   bytes-long long = long ∙ ap (λ k. g.tracers * k) (sym e)
 
-  pub parts-many : length bytes ≡ g.tracers * (4 * section_length quadratic m g) → 0 < n → length bytes / n ≡ g.tracers
-  parts-many long h = ap (λ l. l / n) (bytes-long long) ∙ mul-div_cancel g.tracers h
+  -- what section s is tested for, and what its tracer holds
+  abbrev pub sound_at : ℕ → Bool
+  sound_at s = sound quadratic g (part quadratic g s (parts_of_sections m g bytes))
 
-  -- ---- the tracers, read one after the other: what a turn keeps, and where it ends
-  module _ (field₀ : List ℕ) where
-    -- the sections that are left, the place of the next part, and the field
-    pub record TracersRead (left : List ℕ) (to : ℕ) (field : List ℕ) : Type 0 where
-      pub count : ℕ
-      pub place : to ≡ count * part_length quadratic g
-      pub rest : left ≡ drop (count * n) bytes
-      pub filled : BlocksFilled (part_length quadratic g) made_part field₀ g.tracers count field
+  abbrev pub held_at : ℕ → ℕ
+  held_at s = total quadratic g (part quadratic g s (parts_of_sections m g bytes))
 
-    pub none-read : field_length quadratic g ≤ length field₀ → TracersRead bytes 0 field₀
-    none-read h = record { count = 0; place = sym (zero-mul (part_length quadratic g)); rest = ap (λ k. drop k bytes) (sym (zero-mul n)); filled = blocks-none (omega (arith, field_is g)) }
+  -- ---- the tracers, one after the other: what a turn keeps, and where it ends
+  -- of the search: the sections that are left after `count`, those before them sound, and their totals
+  pub record TracersSummed (totals₀ : List ℕ) (count : ℕ) (left totals : List ℕ) : Type 0 where
+    pub rest : left ≡ drop (count * n) bytes
+    pub passed : all count sound_at ≡ true
+    pub filled : Filled held_at totals₀ g.tracers count totals
 
-    module _ (long : length bytes ≡ g.tracers * (4 * section_length quadratic m g)) {left : List ℕ} {to : ℕ} {field : List ℕ} (r : TracersRead left to field) where
-      left-long : length left + r.count * n ≡ g.tracers * n
-      left-long = omega (arith, ap length r.rest, length-drop (r.count * n) bytes, bytes-long long, mul-le-mul_right n r.filled.within)
+  pub none-summed : (totals : List ℕ) → g.tracers ≤ length totals → TracersSummed totals 0 bytes totals
+  unfolding all
+  none-summed totals h = record { rest = ap (λ k. drop k bytes) (sym (zero-mul n)); passed = refl; filled = filled_none h }
 
-      -- a section x is next: it is one of the tracers', and its part ends within the field
-      module _ (x left' : List ℕ) (q : left ≡ x ++ left') (h : length x ≡ n) (above : 0 < n) where
-        is_next : r.count < g.tracers
-        is_next = lt_of_mul-lt-mul_right n (omega (arith, left-long, ap length q, length-append x left'))
+  -- of the reading: the sections that are left after `count`, the place of the next part, and the field
+  pub record TracersRead (field₀ : List ℕ) (count : ℕ) (left : List ℕ) (to : ℕ) (field : List ℕ) : Type 0 where
+    pub place : to ≡ count * part_length quadratic g
+    pub rest : left ≡ drop (count * n) bytes
+    pub filled : BlocksFilled (part_length quadratic g) made_part field₀ g.tracers count field
 
-        pub next-room : to + part_length quadratic g ≤ field_length quadratic g
-        next-room = omega (arith, r.place, tracer-room g r.count is_next)
+  pub none-read : (field : List ℕ) → field_length quadratic g ≤ length field → TracersRead field 0 bytes 0 field
+  none-read field h = record { place = sym (zero-mul (part_length quadratic g)); rest = ap (λ k. drop k bytes) (sym (zero-mul n)); filled = blocks-none (omega (arith, field_is g)) }
 
-        section-is : x ≡ take n (drop (r.count * n) bytes)
-        section-is = sym (take_at x left' n h) ∙ ap (take n) (sym q ∙ r.rest)
+  module _ (long : length bytes ≡ g.tracers * (4 * section_length quadratic m g)) {count : ℕ} {left : List ℕ} (within : count ≤ g.tracers) (rest : left ≡ drop (count * n) bytes) where
+    left-long : length left + count * n ≡ g.tracers * n
+    left-long = omega (arith, ap length rest, length-drop (count * n) bytes, bytes-long long, mul-le-mul_right n within)
 
-        pub next-sound : field_sound quadratic g (parts_of_sections m g bytes) ≡ true → sound quadratic g (part_of_section m g x) ≡ true
-        unfolding field_sound
-        next-sound t = ap (sound quadratic g) (ap (part_of_section m g) section-is ∙ sym (tracer-part r.count is_next))
-            ∙ true_of _ (all-at g.tracers (λ s. sound quadratic g (part quadratic g s (parts_of_sections m g bytes))) (subst T (sym t) tt) r.count is_next)
+    -- the sections passed and those that are left are the tracers'
+    pub sections-left : 0 < n → (size : ℕ) → size ≡ n → count + length left / size ≡ g.tracers
+    sections-left above size e = omega (arith, ap (λ k. length left / k) e, sym (add-mul-div_right (length left) count above) ∙ ap (λ k. k / n) left-long ∙ mul-div_cancel g.tracers above)
 
-        pub next-read : (w k : ℕ) (y : List ℕ) → w ≡ part_length quadratic g → k ≡ w → y ≡ part_of_section m g x → TracersRead left' (to + w) (take to field ++ (y ++ drop k (drop to field)))
-        next-read w k y ew ek ey = record {
-          count = r.count + 1;
-          place = omega (arith, ew, r.place, count_more r.count (part_length quadratic g));
-          rest = sym (drop_at x left' n h) ∙ ap (drop n) (sym q ∙ r.rest) ∙ drop-drop n (r.count * n) bytes ∙ ap (λ k. drop k bytes) (omega (arith, count_more r.count n));
-          filled = blocks-next each-part r.filled is_next r.place (ek ∙ ew) (ey ∙ ap (part_of_section m g) section-is);
-        }
+    -- no section is left
+    none-left : length left < n → count ≡ g.tracers
+    none-left l = let c : g.tracers < count + 1 = lt_of_mul-lt-mul_right n (omega (arith, left-long, count_more count n)) in omega (arith, within)
 
-      -- no section is left
-      pub all-read : length left < n → field ≡ overwrite 0 (parts_of_sections m g bytes) field₀
-      all-read l =
-          let c : g.tracers < r.count + 1 = lt_of_mul-lt-mul_right n (omega (arith, left-long, count_more r.count n)) in
-          blocks-all r.filled (omega arith) each-part ∙ ap (λ y. overwrite 0 y field₀) (sym parts-are)
+    -- a section x is next: it is one of the tracers'
+    module _ (x left' : List ℕ) (q : left ≡ x ++ left') (h : length x ≡ n) (above : 0 < n) where
+      pub is_next : count < g.tracers
+      is_next = lt_of_mul-lt-mul_right n (omega (arith, left-long, ap length q, length-append x left'))
+
+      section-is : x ≡ take n (drop (count * n) bytes)
+      section-is = sym (take_at x left' n h) ∙ ap (take n) (sym q ∙ rest)
+
+      next-rest : left' ≡ drop ((count + 1) * n) bytes
+      next-rest = sym (drop_at x left' n h) ∙ ap (drop n) (sym q ∙ rest) ∙ drop-drop n (count * n) bytes ∙ ap (λ k. drop k bytes) (omega (arith, count_more count n))
+
+      pub next-held : total quadratic g (part_of_section m g x) ≡ held_at count
+      next-held = ap (total quadratic g) (ap (part_of_section m g) section-is ∙ sym (tracer-part count is_next))
+
+      -- it is searched
+      next-tested : (b : Bool) → b ≡ sound quadratic g (part_of_section m g x) → b ≡ sound_at count
+      next-tested b t = part-tested x b count is_next section-is t
+
+      pub next-unsound : false ≡ sound quadratic g (part_of_section m g x) → field_sound quadratic g (parts_of_sections m g bytes) ≡ false
+      unfolding field_sound
+      next-unsound t = all-fails g.tracers sound_at count is_next (sym (next-tested false t))
+
+      pub next-summed : {totals₀ totals : List ℕ} (t : ℕ) → TracersSummed totals₀ count left totals → accepted t ≡ compared g (part_of_section m g x)
+          → TracersSummed totals₀ (count + 1) left' (set totals count t)
+      unfolding compared
+      next-summed t r e = let p = accepted-is (check 6 (sound quadratic g (part_of_section m g x)) ∷ []) t (total quadratic g (part_of_section m g x)) e in record {
+        rest = next-rest;
+        passed = all_more count sound_at r.passed (sym (next-tested true (sym (true_of _ p.0.0))));
+        filled = filled_next r.filled is_next (p.1 ∙ next-held);
+      }
+
+      pub next-sound : field_sound quadratic g (parts_of_sections m g bytes) ≡ true → sound quadratic g (part_of_section m g x) ≡ true
+      unfolding field_sound
+      next-sound t = next-tested _ refl ∙ true_of _ (all-at g.tracers sound_at (subst T (sym t) tt) count is_next)
+
+      -- its part ends within the field
+      pub next-room : (to : ℕ) → to ≡ count * part_length quadratic g → to + part_length quadratic g ≤ field_length quadratic g
+      next-room to p = omega (arith, p, tracer-room g count is_next)
+
+      pub next-read : {field₀ : List ℕ} {to : ℕ} {field : List ℕ} (w k : ℕ) (y : List ℕ) → TracersRead field₀ count left to field → w ≡ part_length quadratic g → k ≡ w → y ≡ part_of_section m g x
+          → TracersRead field₀ (count + 1) left' (to + w) (take to field ++ (y ++ drop k (drop to field)))
+      next-read w k y r ew ek ey = record {
+        place = omega (arith, ew, r.place, count_more count (part_length quadratic g));
+        rest = next-rest;
+        filled = blocks-next each-part r.filled is_next r.place (ek ∙ ew) (ey ∙ ap (part_of_section m g) section-is);
+      }
+
+    pub all-sound : {totals₀ totals : List ℕ} → TracersSummed totals₀ count left totals → length left < n → true ≡ field_sound quadratic g (parts_of_sections m g bytes)
+    unfolding field_sound
+    all-sound r l = sym (ap (λ k. all k sound_at) (sym (none-left l)) ∙ r.passed)
+
+    pub all-summed : {totals₀ totals : List ℕ} → TracersSummed totals₀ count left totals → length left < n → AreTotals g (parts_of_sections m g bytes) totals
+    all-summed {totals₀} r l s h =
+        let i : s < count = omega (arith, none-left l) in
+        ap (λ y. get_or y s 0) r.filled.same ∙ get_or-append (table count held_at) (drop count totals₀) 0 s (omega (arith, length-table count held_at)) ∙ get_d-table count held_at s 0 i
+
+    pub all-read : {field₀ : List ℕ} {to : ℕ} {field : List ℕ} → TracersRead field₀ count left to field → length left < n → field ≡ overwrite 0 (parts_of_sections m g bytes) field₀
+    all-read {field₀} r l = blocks-all r.filled (omega (arith, none-left l)) each-part ∙ ap (λ y. overwrite 0 y field₀) (sym parts-are)

@@ -1,9 +1,9 @@
 -- The two halves of the checks of file reading: those of the tail, and those that need the shape.
-use Rattle.std.specs.Prelude.{◌&&◌, List, [], ◌∷◌, ℕ, leb}
+use Rattle.std.specs.Prelude.{◌≡◌, ◌&&◌, List, [], ◌∷◌, ℕ, ◌<◌, leb, get_or}
 use Rattle.rules.specs.declared.Shape.{Shape}
 use Rattle.rules.specs.declared.Mark.{Mark}
 use Rattle.rules.specs.Answers.{Answer, Check, check, answer}
-use Rattle.rules.specs.Field.{quadratic, admitted, faces, field_length}
+use Rattle.rules.specs.Field.{quadratic, admitted, faces, field_length, part, total}
 use Rattle.rules.specs.Calls.{wind_sound}
 use Rattle.rules.specs.FieldFile.{tail_shape, tail_right, offsets_right, file_wind, file_field, field_sound}
 
@@ -25,3 +25,7 @@ shape_checks m g file field wind =
 unfoldable pub shape_reply : Mark → Shape → List ℕ → ℕ → ℕ → Answer (Unit {0})
 unfolding shape_checks answer
 shape_reply m g file field wind = answer (shape_checks m g file field wind) tt
+
+-- the first numbers of a list are what a field's tracers hold
+abbrev pub AreTotals : Shape → List ℕ → List ℕ → Type 0
+AreTotals g field totals = (s : ℕ) → s < g.tracers → get_or totals s 0 ≡ total quadratic g (part quadratic g s field)

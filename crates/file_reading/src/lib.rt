@@ -8,6 +8,7 @@ ghost use Rattle.rules.specs.Field.{quadratic, faces, field_length};
 ghost use Rattle.rules.specs.FieldFile.{section_length, file_length, file_wind, file_field, field_sound, ReadGives};
 ghost use Rattle.rules.specs.Answers.{answers};
 ghost use Rattle.file_sections.specs.Numbers.{winds_of, parts_of_sections};
+ghost use Rattle.file_reading.specs.Reading.{AreTotals};
 
 use field_layout::Grid;
 use file_layout::Layout;
@@ -32,16 +33,20 @@ fn sections(file: &[u8], layout: Layout) -> (&[u8], &[u8])
 
 // Reads every tracer's section into its part of the field: each section as its own part of the file, which is document 01's form. The part
 // is lent by its place: of what stands in parts that `chunks_exact_mut` has lent, a proof knows nothing afterwards.
-fn read_tracers(sections: &[u8], field: &mut [u32], layout: Layout)
+fn read_tracers(sections: &[u8], totals: &[u64; checks::TRACERS], field: &mut [u32], layout: Layout)
     requires sections_len { length sections.now ≡ layout.grid.shape.tracers * (4 * section_length quadratic layout.mark layout.grid.shape) }
     requires sections_sound { field_sound quadratic layout.grid.shape (parts_of_sections layout.mark layout.grid.shape sections.now) ≡ true }
+    requires sections_totals { AreTotals layout.grid.shape (parts_of_sections layout.mark layout.grid.shape sections.now) totals.now }
     requires shape_in_bounds { field_length quadratic layout.grid.shape ≤ length field.old }
     ensures { field.new ≡ overwrite 0 (parts_of_sections layout.mark layout.grid.shape sections.now) field.old }
 {
     let n = layout.grid.part_length();
     let mut to = 0;
-    for section in sections.chunks_exact(4 * layout.section_length()) {
-        part::read_part(section, &mut field[to..to + n], layout);
+    for (s, section) in sections
+        .chunks_exact(4 * layout.section_length())
+        .enumerate()
+    {
+        part::read_summed(section, totals[s], &mut field[to..to + n], layout);
         to += n;
     }
 }
@@ -58,9 +63,9 @@ pub fn read(file: &[u8], field: &mut [u32], wind: &mut [i16]) -> Result<Shape, R
     let grid = Grid { shape };
     let mark = tail::read_mark(file);
     let layout = Layout { grid, mark };
-    checks::check(file, field.len(), wind.len(), layout)?;
+    let totals = checks::check(file, field.len(), wind.len(), layout)?;
     let (winds, tracers) = sections(file, layout);
     file_sections::read_all(winds, &mut wind[..grid.faces()]);
-    read_tracers(tracers, field, layout);
+    read_tracers(tracers, &totals, field, layout);
     Ok(shape)
 }

@@ -1,21 +1,19 @@
 -- A tracer's part, from its section of a file, by the file's mark.
 use mathlib.Core.Path.{◌≡◌, refl, sym, ap, ap₂, subst, ◌∙◌}
 use mathlib.Core.Bool.{true}
-use mathlib.Core.List.{List, ◌∷◌, ◌++◌, append-nil}
+use mathlib.Core.List.{List, [], ◌∷◌, ◌++◌, append-nil}
 use Prim.Native.Nat.{ℕ, suc, ◌+◌, ◌*◌, ◌/◌, ◌≤◌}
 use native.Mathlib.Omega.{arith}
 use lib.Dec.{T}
 use lib.ListN.{length, get_or, set, take, drop, drop_of_length-le}
 use lib.Seq.{length-take-le, drop-cons}
-use Rattle.std.specs.Prelude.{Result, is_ok}
 use Rattle.whole.specs.Sum.{sum}
 use Rattle.whole.specs.Table.{table}
 use Rattle.whole.proofs.TableLaws.{fill-last}
 use Rattle.rules.specs.declared.Shape.{Shape}
 use Rattle.rules.specs.declared.Mark.{Mark}
 use Rattle.rules.specs.declared.Mark.TheVariants.{Plum, Plu2}
-use Rattle.rules.specs.declared.Refusal.{Refusal}
-use Rattle.rules.specs.Answers.{answered}
+use Rattle.rules.specs.Answers.{check, answer}
 use Rattle.rules.specs.Bytes.{number32}
 use Rattle.rules.specs.Field.{quadratic, elements, elements_length, part_length, part_of, mass, total, limit, sum_sound, sound}
 use Rattle.rules.specs.FieldFile.{section_length, part_from}
@@ -24,7 +22,6 @@ use Rattle.rules.proofs.StoredLaws.{length-part_of, total-part_of, sound-worked-
 use Rattle.field_layout.proofs.PlaceLaws.{elements-are, part-is-more}
 use Rattle.file_layout.proofs.LayoutLaws.{plum-length, plu2-length, length-part_from}
 use Rattle.field_search.specs.Search.{searched, compared}
-use Rattle.field_search.proofs.SearchLaws.{is-elements-sound, is-sound}
 use Rattle.file_sections.specs.Numbers.{numbers_of, part_of_section}
 use Rattle.file_sections.proofs.SectionLaws.{length-numbers}
 
@@ -53,6 +50,13 @@ module _ (g : Shape) (section : List ℕ) where
   plum-sound : sound quadratic g (part_of_section Plum g section) ≡ sum_sound quadratic g elements_of
   plum-sound = ap (sound quadratic g) plum-part ∙ sound-worked-out quadratic g elements_of (length-numbers section (elements_length quadratic g))
 
+  plum-total : total quadratic g (part_of_section Plum g section) ≡ total quadratic g elements_of
+  plum-total = ap (total quadratic g) plum-part ∙ total-part_of quadratic g elements_of (total quadratic g elements_of) (length-numbers section (elements_length quadratic g))
+
+  -- what the part of a "PLUM" section holds
+  pub total-held : (m : Mark) → m ≡ Plum → total quadratic g (part_of_section m g section) ≡ total quadratic g elements_of
+  total-held m e = ap (λ k. total quadratic g (part_of_section k g section)) e ∙ plum-total
+
 -- ---- a section of mark m, searched
 module _ (m : Mark) (g : Shape) (section : List ℕ) (long : length section ≡ 4 * section_length quadratic m g) where
   many : (n : ℕ) → section_length quadratic m g ≡ n → length section / 4 ≡ n
@@ -64,17 +68,14 @@ module _ (m : Mark) (g : Shape) (section : List ℕ) (long : length section ≡ 
   pub plu2-many : m ≡ Plu2 → length section / 4 ≡ part_length quadratic g
   plu2-many e = many (part_length quadratic g) (ap (λ k. section_length quadratic k g) e ∙ plu2-length quadratic g)
 
-  module _ (r : Result ℕ Refusal) where
-    abbrev Tested : Type 0
-    Tested = is_ok r ≡ sound quadratic g (part_of_section m g section)
+  -- what the search of the section answers is the sum of the part that it makes
+  pub plum-summed : m ≡ Plum → searched g (numbers_of section (length section / 4)) ≡ compared g (part_of_section m g section)
+  unfolding searched compared
+  plum-summed e = ap (λ n. searched g (numbers_of section n)) (plum-many e) ∙ (λ i. answer (check 6 (sym (plum-sound g section) i) ∷ []) (sym (plum-total g section) i))
+      ∙ sym (ap (λ k. compared g (part_of_section k g section)) e)
 
-    pub plum-tested : m ≡ Plum → answered r ≡ searched g (numbers_of section (length section / 4)) → Tested
-    plum-tested e h = is-elements-sound g (numbers_of section (length section / 4)) r h ∙ ap (λ n. sum_sound quadratic g (numbers_of section n)) (plum-many e)
-        ∙ sym (ap (λ k. sound quadratic g (part_of_section k g section)) e ∙ plum-sound g section)
-
-    pub plu2-tested : m ≡ Plu2 → answered r ≡ compared g (numbers_of section (length section / 4)) → Tested
-    plu2-tested e h = is-sound g (numbers_of section (length section / 4)) r h ∙ ap (λ n. sound quadratic g (numbers_of section n)) (plu2-many e)
-        ∙ sym (ap (λ k. sound quadratic g (part_of_section k g section)) e ∙ ap (sound quadratic g) (plu2-part g section))
+  pub plu2-summed : m ≡ Plu2 → compared g (numbers_of section (length section / 4)) ≡ compared g (part_of_section m g section)
+  plu2-summed e = ap (λ n. compared g (numbers_of section n)) (plu2-many e) ∙ ap (compared g) (sym (plu2-part g section)) ∙ sym (ap (λ k. compared g (part_of_section k g section)) e)
 
 -- ---- a section of mark m, whose numbers out are read to the front of the part p
 module _ (m : Mark) (g : Shape) (section p out : List ℕ) (n : ℕ) (width : n ≡ section_length quadratic m g) (size : length p ≡ part_length quadratic g)

@@ -1,14 +1,16 @@
 // The search of a tracer's section of a file, on its bytes: a reader writes no number before every tracer has passed.
 ghost use Rattle.std.specs.Prelude.{◌≡◌, ◌+◌, ◌*◌, ◌≤◌, length};
+ghost use Rattle.rules.specs.Answers.{answered};
 ghost use Rattle.rules.specs.Bytes.{number32};
 ghost use Rattle.rules.specs.Field.{quadratic, sound};
 ghost use Rattle.rules.specs.FieldFile.{section_length};
+ghost use Rattle.field_search.specs.Search.{compared};
 ghost use Rattle.file_sections.specs.Numbers.{part_of_section};
 
 use field_search::Numbers;
 use file_layout::Layout;
 use file_numbers::Stored;
-use rules::Mark;
+use rules::{Mark, Refusal};
 
 // A tracer's section: its numbers one after the other.
 #[derive(Clone, Copy)]
@@ -35,15 +37,22 @@ fn number(section: &[u8], k: usize) -> u32
     u32::read(&section[4 * k..])
 }
 
-// A leaf: whether a tracer's section is sound: "PLUM" has no total that its sum could differ from.
+// A leaf: the sum of what a tracer's section holds; refusal 6 where the section is unsound: "PLUM" has no total that its sum could differ from.
+pub fn tracer_sum(section: &[u8], layout: Layout) -> Result<u64, Refusal>
+    requires { length section.now ≡ 4 * section_length quadratic layout.mark layout.grid.shape }
+    ensures { answered result ≡ compared layout.grid.shape (part_of_section layout.mark layout.grid.shape section.now) }
+{
+    let numbers = Section { bytes: section };
+    match layout.mark {
+        Mark::Plum => field_search::search(&numbers, layout.grid),
+        Mark::Plu2 => field_search::compared_sum(&numbers, layout.grid),
+    }
+}
+
+// A leaf: whether a tracer's section is sound.
 pub fn tracer_sound(section: &[u8], layout: Layout) -> bool
     requires { length section.now ≡ 4 * section_length quadratic layout.mark layout.grid.shape }
     ensures { result ≡ sound quadratic layout.grid.shape (part_of_section layout.mark layout.grid.shape section.now) }
 {
-    let numbers = Section { bytes: section };
-    let sum = match layout.mark {
-        Mark::Plum => field_search::search(&numbers, layout.grid),
-        Mark::Plu2 => field_search::compared_sum(&numbers, layout.grid),
-    };
-    sum.is_ok()
+    tracer_sum(section, layout).is_ok()
 }

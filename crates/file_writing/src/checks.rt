@@ -18,7 +18,7 @@ fn lent_enough(field: usize, wind: usize, file: usize, grid: Grid) -> bool
         && crate::layout(grid).file_length() <= file
 }
 
-// Whether every tracer is sound. One chain, as of a file's sections (file_reading), but over numbers.
+// Whether every tracer is sound. One chain; of a file's sections (file_reading) it is a loop, which keeps their totals.
 fn tracers_sound(field: &[u32], grid: Grid) -> bool
     requires { field_length quadratic grid.shape ≤ length field.now }
     ensures { result ≡ field_sound quadratic grid.shape field.now }

@@ -98,11 +98,11 @@ module _ (g : Shape) (wind : List ℤ) (s : ℕ) (field : List ℕ) (rl wl : ℕ
     lines-accepted t after f q = answers after f ∙ ap (λ a. next a (lines after)) q
 
     -- the lines that are printed from the report buffer
-    pub lines_are : (t : ℕ) (old new : List ℤ) → new ≡ report_after c.reply old → length old ≡ rl → tracer_lines g s new t n ≡ tracer_lines g s outcome.report t n
+    pub lines_are : (t : ℕ) (old new : List ℤ) → new ≡ report_after c.reply old → faces g ≤ length old → tracer_lines g s new t n ≡ tracer_lines g s outcome.report t n
     unfolding tracer_step
-    lines_are t old new q long =
+    lines_are t old new q room =
         ap (λ l. tracer_lines g s l t n) (q ∙ sym (report-accepted c.reply (record { report = outcome.report; clipped = outcome.clipped }) old shown.answers))
-        ∙ lines-kept g s t n outcome.report old (report-length quadratic g (part quadratic g s field) _) (omega (arith, long, reports))
+        ∙ lines-kept g s t n outcome.report old (report-length quadratic g (part quadratic g s field) _) room
 
 -- ---- all tracers: after the line of the grid, the lines of the first s of them are added
 pub record TracersAdded (g : Shape) (wind : List ℤ) (s : ℕ) (first now' : List ℕ) (old new : Text) : Type 0 where

@@ -1,13 +1,14 @@
 -- The pages of a field that was read: no map of it is refused, each is added behind the one before, and there is room for all.
 use mathlib.Core.Path.{◌≡◌, sym, subst, ◌∙◌}
-use mathlib.Core.List.{List}
-use Prim.Native.Nat.{ℕ, ◌+◌, ◌*◌, ◌≤◌, ◌<◌}
+use mathlib.Core.List.{List, ◌++◌}
+use Prim.Native.Nat.{ℕ, ◌+◌, ◌*◌, ◌-◌, ◌≤◌, ◌<◌}
 use native.Mathlib.Nat.{mul-add, mul_assoc, mul-le-mul, mul-le-mul_right}
 use native.Mathlib.Decide.{dec_lt}
 use native.Mathlib.Omega.{arith}
 use lib.Dec.{T, leb, ltb, le→leb, lt→ltb}
 use lib.IntN.{ℤ}
-use lib.ListN.{length}
+use lib.ListN.{length, take, drop, length-drop}
+use lib.Seq.{length-take-le}
 use Rattle.whole.proofs.Cases.{both}
 use Rattle.whole.proofs.SumLaws.{all-at}
 use Rattle.rules.specs.declared.Shape.{Shape}
@@ -24,6 +25,7 @@ use Rattle.file_layout.proofs.ReplyLaws.{Readable, field-read}
 use Rattle.file_round_trips.proofs.ReadThenWritten.{new-field-long, new-field-sound}
 use Rattle.map.proofs.CheckLaws.{page-written}
 use Rattle.text.specs.Added.{Added}
+use Rattle.text.proofs.AddedLaws.{behind}
 use Rattle.output_maps.specs.SoundField.{SoundField}
 
 module _ (g : Shape) (a : Admitted g) (field : List ℕ) (h : SoundField g field) (s : ℕ) (there : s < g.tracers) where
@@ -50,13 +52,24 @@ module _ (g : Shape) (a : Admitted g) (field : List ℕ) (h : SoundField g field
     pub number_is : (n : ℕ) → accepted n ≡ map_reading quadratic g s field out → n ≡ page_length g
     number_is n e = let q : accepted n ≡ accepted (length text) = e ∙ accepts out room in let z : n ≡ length text = cc in z ∙ text-long
 
-    pub page-added : (n : ℕ) (y : List ℕ) → accepted n ≡ map_reading quadratic g s field out → y ≡ map_page quadratic g s field out → Added (page_length g) 0 text out y n
-    page-added n y e w = record {
+    pub page-in-front : (n : ℕ) (y : List ℕ) → accepted n ≡ map_reading quadratic g s field out → y ≡ map_page quadratic g s field out → Added (page_length g) 0 text out y n
+    page-in-front n y e w = record {
       same = w ∙ sym (page-written g s field out _ (accepts out room));
       ends = omega (arith, number_is n e, text-long);
       few = omega (arith, text-long);
       fits = omega (arith, text-long);
     }
+
+  module _ (out : List ℕ) (at k : ℕ) (rest : k ≡ length out - at) (room : at + page_length g ≤ length out) where
+    -- what is lent to the map: the buffer from place `at` on
+    abbrev lent : List ℕ
+    lent = take k (drop at out)
+
+    lent-room : page_length g ≤ length lent
+    lent-room = omega (arith, length-drop at out, length-take-le k (drop at out) (omega (arith, length-drop at out)))
+
+    pub page-added : (n : ℕ) (y : List ℕ) → accepted n ≡ map_reading quadratic g s field lent → y ≡ map_page quadratic g s field lent → Added (page_length g) at text out (take at out ++ (y ++ drop k (drop at out))) (at + n)
+    page-added n y e w = behind rest (omega arith) (page-in-front lent lent-room n y e w)
 
 -- the field of an accepted file
 pub read-sound : (g : Shape) (file field : List ℕ) (wind : List ℤ) → Readable quadratic g file field wind → SoundField g (read_field quadratic file field wind)

@@ -14,8 +14,9 @@ use lib.Signed.{non_neg, ◌≤ℤ◌}
 use Rattle.whole.specs.Bound.{Within, AllWithin}
 use Rattle.whole.specs.Parts.{positive, negative}
 use Rattle.whole.specs.Sum.{sum}
-use Rattle.whole.specs.Table.{table, blocks, at}
+use Rattle.whole.specs.Table.{table, blocks, overwrite, at}
 use Rattle.whole.proofs.Cases.{cond_ind}
+use Rattle.whole.proofs.ListParts.{overwritten}
 use Rattle.whole.proofs.BoundLaws.{within-le, within-sub, within-pos}
 use Rattle.whole.proofs.SumLaws.{sum-cong}
 use Rattle.whole.proofs.TableLaws.{length-table, get_d-table, table-all, table-cong, blocks-cong}
@@ -238,8 +239,12 @@ module _ {g : Shape} {wind : List ℤ} {p : List ℕ} (given : Given g wind p) w
       own : (e : ℕ) → e < elements g → positive (at masses e) ≡ mass quadratic p e
       own e l = ap positive (mass-at e l) ∙ positive-pos (mass quadratic p e)
 
-  pub reported : {fs os ms made : List ℤ} → fs ≡ flux_list → os ≡ outflows → ms ≡ masses → made ≡ table (faces g) (limited_face g fs os ms) → made ≡ limited
-  reported ef eo em h = h ∙ (λ i. table (faces g) (limited_face g (ef i) (eo i) (em i))) ∙ cut_is
+  -- surplus of a report stays
+  pub reported : (r : List ℤ) {fs os ms made : List ℤ} → fs ≡ flux_list → os ≡ outflows → ms ≡ masses → made ≡ overwrite 0 (table (faces g) (limited_face g fs os ms)) r → made ≡ overwrite 0 limited r
+  reported r ef eo em h = h ∙ ap (λ x. overwrite 0 x r) ((λ i. table (faces g) (limited_face g (ef i) (eo i) (em i))) ∙ cut_is)
+
+  pub limited-over : (r : List ℤ) → length r ≡ faces g → overwrite 0 limited r ≡ limited
+  limited-over r h = overwritten limited r (h ∙ sym (report-length quadratic g p flux_list))
 
   limited-small : (f : ℕ) → f < faces g → Within limit (at limited f)
   limited-small f l = record { within = report-le quadratic g p flux_list hx hy given.within-limit f l }

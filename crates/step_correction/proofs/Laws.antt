@@ -48,7 +48,7 @@ quotient (pos a) o = refl
 quotient (negsuc a) o = refl
 
 -- of a product by a natural, too
-product-quotient : (z : ℤ) (o m : ℕ) → quot_z (z *ℤ pos m) (pos o) ≡ with_sign z (nat_abs z * m / o)
+pub product-quotient : (z : ℤ) (o m : ℕ) → quot_z (z *ℤ pos m) (pos o) ≡ with_sign z (nat_abs z * m / o)
 unfolding with_sign
 product-quotient (pos a) o m = refl
 product-quotient (negsuc a) o zero = rw (mul-zero (suc a)) (ap pos (zero-div o) ∙ sym (ap (λ n. neg_ℤ (pos n)) (zero-div o)))

@@ -4,7 +4,7 @@
 
 ghost use Rattle.std.specs.Prelude.{◌≡◌, cond, ℕ, ◌+◌, ◌*◌, ◌≤◌, ◌<◌, pos, length};
 ghost use Rattle.std.specs.Int.Signed.{non_neg};
-ghost use Rattle.whole.specs.Table.{table, at};
+ghost use Rattle.whole.specs.Table.{table, overwrite, at};
 ghost use Rattle.whole.specs.Bound.{Within, Are, AllWithin};
 ghost use Rattle.whole.specs.Parts.{positive, negative};
 ghost use Rattle.rules.specs.Field.{quadratic, elements, faces, mass, limit};
@@ -130,11 +130,11 @@ fn row_limit(report: &mut [i32], fluxes: &[i64], outflows: &[i64], masses: &[i64
     }
 }
 
-// The limited fluxes of all faces, the face report, row by row.
+// The limited fluxes of all faces, the face report, row by row; surplus is left alone.
 pub fn limit(report: &mut [i32], fluxes: &[i64], outflows: &[i64], masses: &[i64], grid: Grid)
-    requires report_len { length report.old ≡ faces grid.shape }
+    requires shape_in_bounds { faces grid.shape ≤ length report.old }
     requires amounts { Amounts grid.shape fluxes.now outflows.now masses.now }
-    ensures { report.new ≡ table (faces grid.shape) (limited_face grid.shape fluxes.now outflows.now masses.now) }
+    ensures { report.new ≡ overwrite 0 (table (faces grid.shape) (limited_face grid.shape fluxes.now outflows.now masses.now)) report.old }
 {
     for index in 0..2 * grid.shape.ny {
         let row = Row { grid, index };

@@ -47,7 +47,7 @@ fn sign(c: i64) -> i64
 // Where the upwind values of a face begin in a stage: in the element behind it where the wind is not negative, else in the one ahead.
 // Computed from the sign: a branch here would be guessed wrong at every second face of a wind that often turns.
 // By `as`: std has no `From` between usize and i64, and Rattle proves that nothing is lost.
-fn upwind_start(c: i64, behind: usize, ahead: usize, last: usize) -> usize
+pub fn upwind_start(c: i64, behind: usize, ahead: usize, last: usize) -> usize
     requires behind_lt_most_elements { behind < most_elements }
     requires ahead_lt_most_elements { ahead < most_elements }
     requires last_bound { last < 9 }

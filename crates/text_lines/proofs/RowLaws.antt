@@ -1,5 +1,5 @@
--- The faces that look one way are a half of the report, and its rows are the grid's.
-use mathlib.Core.Path.{◌≡◌, sym, ap, ◌∙◌}
+-- Where the faces of a row stand in the report. The faces that look one way are a half of it, and its rows are the grid's.
+use mathlib.Core.Path.{◌≡◌, refl, sym, ap, ◌∙◌}
 use mathlib.Core.List.{List, ◌++◌}
 use Prim.Native.Nat.{ℕ, suc, ◌+◌, ◌*◌, ◌-◌, ◌/◌, ◌≤◌, ◌<◌}
 use native.Mathlib.Nat.{mul_comm, suc-mul, mul-div_cancel, add-mul-div_right, mul-le-mul_right, lt_of_mul-lt-mul_right}
@@ -22,10 +22,24 @@ use Rattle.text.specs.declared.Text.{Text}
 use Rattle.text.specs.Adds.{Adds}
 use Rattle.text.proofs.AddsLaws.{same_bytes, wider}
 
--- the faces that look one way follow one another, row by row
-pub face-is : (g : Shape) (way : Way) (i j : ℕ) → face_index g way 0 0 + (j * g.nx + i) ≡ face_index g way i j
+-- the faces of a row follow one another
+pub face-is : (g : Shape) (way : Way) (i j : ℕ) → face_index g way 0 j + i ≡ face_index g way i j
 face-is g East i j = omega arith
 face-is g North i j = omega arith
+
+-- the line of face i of a row whose first face is number `first` of the report
+abbrev pub line_from : ℕ → Way → List ℤ → ℕ → ℕ → ℕ → List ℕ
+line_from s way report j first i = face_line s way i j (at report (first + i))
+
+pub row_is : (g : Shape) (s : ℕ) (way : Way) (report : List ℤ) (j first : ℕ) → first ≡ face_index g way 0 j → blocks g.nx (line_from s way report j first) ≡ face_row g s way report j
+unfolding face_row
+row_is g s way report j first h = blocks-cong g.nx (line_from s way report j first) (λ i. face_line s way i j (at report (face_index g way i j)))
+    (λ i _. ap (λ k. face_line s way i j (at report k)) (ap (λ n. n + i) h ∙ face-is g way i j))
+
+-- the faces that look one way follow one another, row by row
+pub face-in-half : (g : Shape) (way : Way) (i j : ℕ) → face_index g way 0 0 + (j * g.nx + i) ≡ face_index g way i j
+face-in-half g East i j = omega arith
+face-in-half g North i j = omega arith
 
 first-le : (g : Shape) (way : Way) → face_index g way 0 0 ≤ elements g
 first-le g East = omega arith
@@ -42,7 +56,7 @@ module _ (g : Shape) (way : Way) (report : List ℤ) (start n : ℕ) (hs : start
   half-is = record {
     size = part-size (g.ny * g.nx) start (start + n - start) report (omega (arith, hn, mul_comm g.nx g.ny)) (omega (arith, hs, first-le g way, room, mul_comm g.nx g.ny));
     numbers = λ i j l m. get_or-take (start + n - start) (drop start report) (j * g.nx + i) (pos 0) (omega (arith, hn, element-lt g i j l m)) ∙ get_or-drop start report (j * g.nx + i) (pos 0)
-        ∙ ap (at report) (ap (λ k. k + (j * g.nx + i)) hs ∙ face-is g way i j);
+        ∙ ap (at report) (ap (λ k. k + (j * g.nx + i)) hs ∙ face-in-half g way i j);
   }
 
 module _ {g : Shape} {way : Way} {report half : List ℤ} (w : IsHalf g way report half) (above : 0 < g.nx) where
@@ -71,9 +85,10 @@ module _ {g : Shape} {way : Way} {report half : List ℤ} (w : IsHalf g way repo
           let is : row ≡ take g.nx (drop (j * g.nx) half) = sym (take_at row left' g.nx h) ∙ ap (take g.nx) (sym e ∙ rest) in
           ap (λ r. at r i) is ∙ get_or-take g.nx (drop (j * g.nx) half) i (pos 0) l ∙ get_or-drop (j * g.nx) half i (pos 0) ∙ w.numbers i j l there
 
-      pub row_is : (s : ℕ) → blocks (length row) (λ i. face_line s way i j (at row i)) ≡ face_row g s way report j
-      unfolding face_row
-      row_is s = ap (λ k. blocks k (λ i. face_line s way i j (at row i))) h ∙ blocks-cong g.nx _ (λ i. face_line s way i j (at report (face_index g way i j))) (λ i l. ap (face_line s way i j) (number-is i l))
+      pub row-of-half : (s : ℕ) → blocks (length row) (λ i. face_line s way i j (at row i)) ≡ face_row g s way report j
+      row-of-half s = ap (λ k. blocks k (λ i. face_line s way i j (at row i))) h
+          ∙ blocks-cong g.nx _ (line_from s way report j (face_index g way 0 j)) (λ i l. ap (face_line s way i j) (number-is i l ∙ sym (ap (at report) (face-is g way i j))))
+          ∙ row_is g s way report j (face_index g way 0 j) refl
 
       pub row-added : (s : ℕ) {old new : Text} → Adds (length row * 96) (blocks (length row) (λ i. face_line s way i j (at row i))) old new → Adds (g.nx * 96) (face_row g s way report j) old new
-      row-added s p = same_bytes (row_is s) (wider p (g.nx * 96) (omega (arith, h)))
+      row-added s p = same_bytes (row-of-half s) (wider p (g.nx * 96) (omega (arith, h)))

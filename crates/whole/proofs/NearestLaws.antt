@@ -3,7 +3,8 @@ use mathlib.Core.Path.{◌≡◌, refl, sym, ap, ◌∙◌}
 use mathlib.Core.Bool.{Bool, true, false, cond}
 use Prim.Native.Nat.{ℕ, zero, suc, ◌+◌, ◌*◌, ◌/◌, ◌%◌, ◌≤◌, ◌<◌}
 use borrow.Author.Tests.{lt-ltb, le-ltb, ltb-true, ltb-false}
-use native.Mathlib.Nat.{add-zero, zero-div, zero-mod, div-add-mod', le-mul_of_pos_right, le-div_iff_mul-le, le_of_mul-le-mul_right, lt_of_mul-lt-mul_right, div-eq_of_lt, mod-eq_of_lt, mul_assoc, mul_comm, mul-div_cancel, mul-div-mul_right, mul-mod_left, mul-le-mul_right, mul-lt-mul_of_pos_right}
+use native.Mathlib.Nat.{add-zero, zero-div, zero-mod, div-add-mod', le-mul_of_pos_right, le-div_iff_mul-le, le_of_mul-le-mul_right, lt_of_mul-lt-mul_right, div-eq_of_lt, mod-eq_of_lt, mul_assoc, mul_comm, mul-div_cancel, mul-div-mul_right, mul-mod_left, mul-le-mul_right, mul-lt-mul_of_pos_right, mod-lt}
+use native.Mathlib.Decide.{dec_lt}
 use native.Mathlib.Omega.{arith}
 use lib.Arith.{mod-mul}
 use lib.Dec.{ltb, nltb→le}
@@ -25,6 +26,21 @@ module _ (n d : ℕ) where
   pub even-one : d ≤ 2 * (n % d) → 2 * (n % d) ≤ d → n / d + n / d % 2 ≡ nearest_natural n d
   unfolding nearest_natural
   even-one h k = rw (le-ltb (2 * (n % d)) d h, le-ltb d (2 * (n % d)) k)
+
+  -- both tests in one: at a half, an odd quotient goes one up
+  pub one-up : d < 2 * (n % d) + n / d % 2 → n / d + 1 ≡ nearest_natural n d
+  one-up h = go (dec_lt d (2 * (n % d)))
+    where
+      go : Dec (d < 2 * (n % d)) → n / d + 1 ≡ nearest_natural n d
+      go (yes l) = one_more l
+      go (no l) = let odd : n / d % 2 ≡ 1 = omega (arith, mod-lt (n / d) {m = 2} (omega arith)) in sym (ap (λ k. n / d + k) odd) ∙ even-one (omega arith) (omega arith)
+
+  pub none-up : 2 * (n % d) + n / d % 2 ≤ d → n / d ≡ nearest_natural n d
+  none-up h = go (dec_lt (2 * (n % d)) d)
+    where
+      go : Dec (2 * (n % d) < d) → n / d ≡ nearest_natural n d
+      go (yes l) = quotient l
+      go (no l) = let even : n / d % 2 ≡ 0 = omega arith in let z : n / d + n / d % 2 ≡ n / d = omega arith in sym z ∙ even-one (omega arith) (omega arith)
 
   -- where there is a rest, one more than the quotient is at most n
   pub more-fits : 0 < d → 0 < n % d → n / d + 1 ≤ n

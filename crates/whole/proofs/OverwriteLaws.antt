@@ -102,6 +102,23 @@ module _ {ℓ} {A : Type ℓ} where
   pub filled-part : (n : ℕ) (a : A) (l p : List A) → n ≤ length l → p ≡ replicate (length (take n l)) a → p ++ drop n l ≡ overwrite 0 (replicate n a) l
   filled-part n a l p h e = rw (e, length-take-le n l h) (ap (λ m. replicate n a ++ drop m l) (sym (length-replicate n a)) ∙ sym (front-is (replicate n a) l))
 
+  -- a list with ys in front, and beyond it the numbers of xs
+  pub front-written : (d : A) (ys xs new : List A) → length new ≡ length xs → length ys ≤ length xs → ((i : ℕ) → i < length ys → get_or new i d ≡ get_or ys i d)
+      → ((i : ℕ) → length ys ≤ i → get_or new i d ≡ get_or xs i d) → new ≡ overwrite 0 ys xs
+  front-written d ys xs new size room front beyond = ext_get_or d new (overwrite 0 ys xs) (size ∙ sym (length-overwrite 0 ys xs fits)) (λ i l. go i (dec_lt i (length ys)))
+    where
+      fits : 0 + length ys ≤ length xs
+      fits = omega arith
+
+      here : (i j : ℕ) → i ≡ j → get_or (overwrite 0 ys xs) j d ≡ get_or (overwrite 0 ys xs) i d
+      here i j e = ap (λ k. get_or (overwrite 0 ys xs) k d) (sym e)
+
+      go : (i : ℕ) → Dec (i < length ys) → get_or new i d ≡ get_or (overwrite 0 ys xs) i d
+      go i (yes l) = front i l ∙ sym (overwrite-inside 0 ys xs fits d i l) ∙ here i (0 + i) (omega arith)
+      go i (no l) =
+          let n : i ≡ 0 + (length ys + (i - length ys)) = omega arith in
+          beyond i (omega arith) ∙ ap (λ k. get_or xs k d) n ∙ sym (overwrite-above 0 ys xs fits d (i - length ys)) ∙ here i (0 + (length ys + (i - length ys))) n
+
 -- a part written within a part: b numbers into the n from place a on
 pub overwrite-part : {A : Type 0} (a n b : ℕ) (x l : List A) → a + n ≤ length l → b + length x ≤ n
     → overwrite a (overwrite b x (take n (drop a l))) l ≡ overwrite (a + b) x l

@@ -1,13 +1,14 @@
-use Rattle.std.proofs.Common.{◌≡◌, refl, ◌*◌}
+use Rattle.std.proofs.Common.{◌≡◌, ◌*◌, ◌≤◌, refl}
 use Rattle.rules.specs.Field.{quadratic}
 use Rattle.rules.specs.FieldFile.{section_length}
 use Rattle.file_reading.proofs.PartLaws.{TracersRead}
 use Rattle.file_reading.proofs.read_tracers.Given as goal
 
-abbrev pub invariant-loop-section : goal.invariant-loop-section
-invariant-loop-section l =
+abbrev pub invariant-loop-s : goal.invariant-loop-s
+invariant-loop-s l =
+    let it = l.s-iterator in
     let m = l.fn.layout.mark in
     let g = l.fn.layout.grid.shape in
     let n = 4 * section_length quadratic m g in
-    (goal.iterator-loop-section).can_next l.section-iterator × (goal.iterator-loop-section).is_finite l.section-iterator × (l.section-iterator.size ≡ n)
-    × TracersRead m g l.sections n refl l.initial.field l.section-iterator.rest.now l.to l.field
+    (goal.iterator-loop-s).can_next it × (goal.iterator-loop-s).is_finite it × (it.iter.size ≡ n) × (it.count ≤ g.tracers)
+    × TracersRead m g l.sections n refl l.initial.field it.count it.iter.rest.now l.to l.field

@@ -1,5 +1,5 @@
 -- One tracer: a refused step or reading is the definition's refusal, and else its lines are added, printed from the report buffer.
-use mathlib.Core.Path.{refl, sym}
+use mathlib.Core.Path.{sym}
 use native.Mathlib.Omega.{arith}
 use Rattle.text.proofs.AddsLaws.{same_bytes}
 use Rattle.output.proofs.Laws.{passed, step-refused, reports, total-refused, lines-accepted, lines_are}
@@ -28,8 +28,9 @@ returns-clause-lines c =
     let e = sym c.in_ok-clipped.ensures.gives.0 in
     let total = c.in_ok-total.total in
     let q = sym c.in_ok-total.ensures in
+    let room = reports c.args.grid.shape b.wind c.args.tracer b.field _ _ (omega arith) (omega arith) clipped e in
     record {
       text = _;
       is = lines-accepted c.args.grid.shape b.wind c.args.tracer b.field _ _ (omega arith) (omega arith) clipped e total _ c.step.ensures.gives.1.0 q;
-      added = same_bytes (lines_are c.args.grid.shape b.wind c.args.tracer b.field _ _ (omega arith) (omega arith) clipped e total b.report _ c.step.ensures.gives.1.1.0 refl) c.tracer_lines.ensures;
+      added = same_bytes (lines_are c.args.grid.shape b.wind c.args.tracer b.field _ _ (omega arith) (omega arith) clipped e total b.report _ c.step.ensures.gives.1.1.0 (omega (arith, room))) c.tracer_lines.ensures;
     }
