@@ -24,7 +24,7 @@ fn run(rt: &impl Print) -> io::Result<()> {
     maps::run(rt)
 }
 
-// A line that standard output does not take is told nobody: what the program prints is compared with its file `stdout`.
+// Says nothing of what standard output does not take: the lines that it took are compared with the file `stdout`.
 fn main(rt: HostRuntime) {
     let _ = run(&rt);
 }

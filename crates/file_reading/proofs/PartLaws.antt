@@ -24,9 +24,15 @@ use Rattle.rules.specs.FieldFile.{section_length, field_sound}
 use Rattle.rules.proofs.AnswerLaws.{accepted-is}
 use Rattle.field_search.specs.Search.{compared}
 use Rattle.field_layout.proofs.PlaceLaws.{field_is, tracer-room}
+use Rattle.file_layout.specs.declared.Layout.{Layout}
+use Rattle.file_layout.proofs.LayoutLaws.{section-within}
 use Rattle.file_sections.specs.Numbers.{part_of_section, parts_of_sections}
 use Rattle.file_sections.proofs.PartLaws.{length-part-of-section}
 use Rattle.file_reading.specs.Reading.{AreTotals}
+
+-- a section has numbers
+pub above : (a : Layout) → 0 < 4 * section_length quadratic a.mark a.grid.shape
+above a = omega (arith, (section-within a.grid.shape a.mark a.grid.admitted).0)
 
 -- one section more
 count_more : (k n : ℕ) → (k + 1) * n ≡ k * n + n

@@ -26,6 +26,6 @@ unfoldable pub shape_reply : Mark → Shape → List ℕ → ℕ → ℕ → Ans
 unfolding shape_checks answer
 shape_reply m g file field wind = answer (shape_checks m g file field wind) tt
 
--- the first numbers of a list are what a field's tracers hold
+-- the first numbers of a list are the totals of a field's tracers (document 01: "A smoke's total is the sum of M")
 abbrev pub AreTotals : Shape → List ℕ → List ℕ → Type 0
 AreTotals g field totals = (s : ℕ) → s < g.tracers → get_or totals s 0 ≡ total quadratic g (part quadratic g s field)

@@ -13,7 +13,7 @@ use Rattle.whole.proofs.TableLaws.{fill-last}
 use Rattle.rules.specs.declared.Shape.{Shape}
 use Rattle.rules.specs.declared.Mark.{Mark}
 use Rattle.rules.specs.declared.Mark.TheVariants.{Plum, Plu2}
-use Rattle.rules.specs.Answers.{check, answer}
+use Rattle.rules.specs.Answers.{accepted, refused, check, answer}
 use Rattle.rules.specs.Bytes.{number32}
 use Rattle.rules.specs.Field.{quadratic, elements, elements_length, part_length, part_of, mass, total, limit, sum_sound, sound}
 use Rattle.rules.specs.FieldFile.{section_length, part_from}
@@ -76,6 +76,18 @@ module _ (m : Mark) (g : Shape) (section : List ℕ) (long : length section ≡ 
 
   pub plu2-summed : m ≡ Plu2 → compared g (numbers_of section (length section / 4)) ≡ compared g (part_of_section m g section)
   plu2-summed e = ap (λ n. compared g (numbers_of section n)) (plu2-many e) ∙ ap (compared g) (sym (plu2-part g section)) ∙ sym (ap (λ k. compared g (part_of_section k g section)) e)
+
+-- the sum of a sound part is answered, and no refusal
+module _ (g : Shape) (p : List ℕ) (h : sound quadratic g p ≡ true) where
+  summed : compared g p ≡ accepted (total quadratic g p)
+  unfolding compared answer
+  summed = rw h refl
+
+  pub summed-is : (t : ℕ) → accepted t ≡ compared g p → t ≡ total quadratic g p
+  summed-is t e = let q : accepted t ≡ accepted (total quadratic g p) = e ∙ summed in cc
+
+  pub summed-never : {A : Type 0} (n : ℕ) → refused n ≡ compared g p → A
+  summed-never n e = let q : refused n ≡ accepted (total quadratic g p) = e ∙ summed in absurd cc
 
 -- ---- a section of mark m, whose numbers out are read to the front of the part p
 module _ (m : Mark) (g : Shape) (section p out : List ℕ) (n : ℕ) (width : n ≡ section_length quadratic m g) (size : length p ≡ part_length quadratic g)

@@ -3,15 +3,9 @@ use native.Mathlib.Nat.{zero-mul}
 use Rattle.rules.specs.Field.{quadratic, field_length}
 use Rattle.rules.specs.FieldFile.{section_length}
 use Rattle.field_layout.proofs.PlaceLaws.{field_is, field-le}
-use Rattle.file_layout.specs.declared.Layout.{Layout}
-use Rattle.file_layout.proofs.LayoutLaws.{section-within}
-use Rattle.file_reading.proofs.PartLaws.{TracersRead, none-read, sections-left, is_next, next-room, next-sound, next-held, next-read, all-read}
+use Rattle.file_reading.proofs.PartLaws.{above, TracersRead, none-read, sections-left, is_next, next-room, next-sound, next-held, next-read, all-read}
 use Rattle.file_reading.proofs.read_tracers.Goals as goal
 use Rattle.file_reading.proofs.read_tracers.Goals.{In-Some}
-
--- a section has numbers
-above : (a : Layout) → 0 < 4 * section_length quadratic a.mark a.grid.shape
-above a = omega (arith, (section-within a.grid.shape a.mark a.grid.admitted).0)
 
 pub chunks_exact-requires : goal.chunks_exact-requires
 chunks_exact-requires c = omega (arith, c.section_length.ensures, above c.args.layout)

@@ -6,16 +6,10 @@ use Rattle.rules.specs.Answers.{answered}
 use Rattle.rules.specs.Field.{quadratic}
 use Rattle.rules.specs.FieldFile.{section_length}
 use Rattle.field_search.proofs.SearchLaws.{is-sound}
-use Rattle.file_layout.specs.declared.Layout.{Layout}
-use Rattle.file_layout.proofs.LayoutLaws.{section-within}
 use Rattle.file_sections.specs.Numbers.{part_of_section}
-use Rattle.file_reading.proofs.PartLaws.{TracersSummed, none-summed, sections-left, is_next, next-unsound, next-summed, all-sound, all-summed}
+use Rattle.file_reading.proofs.PartLaws.{above, TracersSummed, none-summed, sections-left, is_next, next-unsound, next-summed, all-sound, all-summed}
 use Rattle.file_reading.proofs.checks.tracer_totals.Goals as goal
 use Rattle.file_reading.proofs.checks.tracer_totals.Goals.{In-Some}
-
--- a section has numbers
-above : (a : Layout) → 0 < 4 * section_length quadratic a.mark a.grid.shape
-above a = omega (arith, (section-within a.grid.shape a.mark a.grid.admitted).0)
 
 pub chunks_exact-requires : goal.chunks_exact-requires
 chunks_exact-requires c = omega (arith, c.section_length.ensures, above c.args.layout)
