@@ -7,13 +7,15 @@ use native.Mathlib.Omega.{arith}
 use lib.Dec.{T}
 use lib.ListN.{length, get_or, set, take, drop, drop_of_length-le}
 use lib.Seq.{length-take-le, drop-cons}
+use Rattle.std.specs.Prelude.{Result, is_ok}
 use Rattle.whole.specs.Sum.{sum}
 use Rattle.whole.specs.Table.{table}
 use Rattle.whole.proofs.TableLaws.{fill-last}
 use Rattle.rules.specs.declared.Shape.{Shape}
 use Rattle.rules.specs.declared.Mark.{Mark}
 use Rattle.rules.specs.declared.Mark.TheVariants.{Plum, Plu2}
-use Rattle.rules.specs.Answers.{accepted, refused, check, answer}
+use Rattle.rules.specs.declared.Refusal.{Refusal}
+use Rattle.rules.specs.Answers.{accepted, refused, answered, check, answer}
 use Rattle.rules.specs.Bytes.{number32}
 use Rattle.rules.specs.Field.{quadratic, elements, elements_length, part_length, part_of, mass, total, limit, sum_sound, sound}
 use Rattle.rules.specs.FieldFile.{section_length, part_from}
@@ -22,6 +24,7 @@ use Rattle.rules.proofs.StoredLaws.{length-part_of, total-part_of, sound-worked-
 use Rattle.field_layout.proofs.PlaceLaws.{elements-are, part-is-more}
 use Rattle.file_layout.proofs.LayoutLaws.{plum-length, plu2-length, length-part_from}
 use Rattle.field_search.specs.Search.{searched, compared}
+use Rattle.field_search.proofs.SearchLaws.{is-sound}
 use Rattle.file_sections.specs.Numbers.{numbers_of, part_of_section}
 use Rattle.file_sections.proofs.SectionLaws.{length-numbers}
 
@@ -76,6 +79,17 @@ module _ (m : Mark) (g : Shape) (section : List ℕ) (long : length section ≡ 
 
   pub plu2-summed : m ≡ Plu2 → compared g (numbers_of section (length section / 4)) ≡ compared g (part_of_section m g section)
   plu2-summed e = ap (λ n. compared g (numbers_of section n)) (plu2-many e) ∙ ap (compared g) (sym (plu2-part g section)) ∙ sym (ap (λ k. compared g (part_of_section k g section)) e)
+
+  -- a search accepts exactly the sections that make a sound part
+  module _ (r : Result ℕ Refusal) where
+    abbrev Tested : Type 0
+    Tested = is_ok r ≡ sound quadratic g (part_of_section m g section)
+
+    pub plum-tested : m ≡ Plum → answered r ≡ searched g (numbers_of section (length section / 4)) → Tested
+    plum-tested e h = is-sound g (part_of_section m g section) r (h ∙ plum-summed e)
+
+    pub plu2-tested : m ≡ Plu2 → answered r ≡ compared g (numbers_of section (length section / 4)) → Tested
+    plu2-tested e h = is-sound g (part_of_section m g section) r (h ∙ plu2-summed e)
 
 -- the sum of a sound part is answered, and no refusal
 module _ (g : Shape) (p : List ℕ) (h : sound quadratic g p ≡ true) where

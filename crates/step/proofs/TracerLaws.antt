@@ -1,6 +1,6 @@
 -- The passes of a step, one after the other, are document 01's step of a tracer's part: each section of work is the rules' list, so that the
 -- report and every target are the rules'.
-use mathlib.Core.Path.{◌≡◌, sym, ap, subst, ◌∙◌}
+use mathlib.Core.Path.{◌≡◌, refl, sym, ap, subst, ◌∙◌}
 use mathlib.Core.Bool.{true}
 use mathlib.Core.List.{List}
 use Prim.Native.Nat.{ℕ, suc, ◌+◌, ◌*◌, ◌/◌, ◌%◌, ◌≤◌, ◌<◌}
@@ -239,9 +239,12 @@ module _ {g : Shape} {wind : List ℤ} {p : List ℕ} (given : Given g wind p) w
       own : (e : ℕ) → e < elements g → positive (at masses e) ≡ mass quadratic p e
       own e l = ap positive (mass-at e l) ∙ positive-pos (mass quadratic p e)
 
+  pub reported : {fs os ms made : List ℤ} → fs ≡ flux_list → os ≡ outflows → ms ≡ masses → made ≡ table (faces g) (limited_face g fs os ms) → made ≡ limited
+  reported ef eo em h = h ∙ (λ i. table (faces g) (limited_face g (ef i) (eo i) (em i))) ∙ cut_is
+
   -- surplus of a report stays
-  pub reported : (r : List ℤ) {fs os ms made : List ℤ} → fs ≡ flux_list → os ≡ outflows → ms ≡ masses → made ≡ overwrite 0 (table (faces g) (limited_face g fs os ms)) r → made ≡ overwrite 0 limited r
-  reported r ef eo em h = h ∙ ap (λ x. overwrite 0 x r) ((λ i. table (faces g) (limited_face g (ef i) (eo i) (em i))) ∙ cut_is)
+  pub reported-over : (r : List ℤ) {fs os ms made : List ℤ} → fs ≡ flux_list → os ≡ outflows → ms ≡ masses → made ≡ overwrite 0 (table (faces g) (limited_face g fs os ms)) r → made ≡ overwrite 0 limited r
+  reported-over r ef eo em h = h ∙ ap (λ x. overwrite 0 x r) (reported ef eo em refl)
 
   pub limited-over : (r : List ℤ) → length r ≡ faces g → overwrite 0 limited r ≡ limited
   limited-over r h = overwritten limited r (h ∙ sym (report-length quadratic g p flux_list))

@@ -3,7 +3,7 @@ use mathlib.Core.Path.{◌≡◌, ◌∙◌}
 use native.Mathlib.Omega.{arith}
 use Rattle.rules.specs.Step.{finish, tracer_step}
 use Rattle.field_layout.proofs.PlaceLaws.{part-is}
-use Rattle.step.proofs.TracerLaws.{Given, given-of, mass-small, fluxes-lent, masses, outflows, weighed, drained, limited, reported, limited-over, limited-lent, rise_list, raised, values-of, amounts-of, balance-of, all_closed, all_clipped}
+use Rattle.step.proofs.TracerLaws.{Given, given-of, mass-small, fluxes-lent, masses, outflows, weighed, drained, limited, reported-over, limited-over, limited-lent, rise_list, raised, values-of, amounts-of, balance-of, all_closed, all_clipped}
 use Rattle.step.proofs.tracer.step.Goals as goal
 use Rattle.step.proofs.tracer.step.Goals.{After-masses, After-outflows, After-limit, After-rises, Start}
 
@@ -20,7 +20,7 @@ drained-at c h = drained h c.stages.ensures.amounts_after c.outflows.ensures
 reported-at : (c : After-limit) (h : Given c.args.winds.grid.shape c.args.winds.wind.now c.args.part.now) → c.limit.new.report ≡ limited h
 reported-at c h =
     let x = goal.at-After-limit c in
-    reported h c.args.report.now c.stages.ensures.amounts_after (drained-at x.After-outflows h) (weighed-at x.After-masses h) c.limit.ensures ∙ limited-over h c.args.report.now c.requires.report_len
+    reported-over h c.args.report.now c.stages.ensures.amounts_after (drained-at x.After-outflows h) (weighed-at x.After-masses h) c.limit.ensures ∙ limited-over h c.args.report.now c.requires.report_len
 
 raised-at : (c : After-rises) (h : Given c.args.winds.grid.shape c.args.winds.wind.now c.args.part.now) → c.rises.new.fluxes ≡ rise_list h
 raised-at c h = let x = goal.at-After-rises c in raised h c.stages.ensures.amounts_after (reported-at x.After-limit h) c.rises.ensures
